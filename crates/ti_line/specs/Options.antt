@@ -1,5 +1,5 @@
 -- How results are written: as the flags of a line request, or plainly.
-use Rattle.std.specs.Prelude.{ℕ, Bool, true, false, List, ◌++◌, Option, Some, None, codes, if◌then◌else◌}
+use Rattle.std.specs.Prelude.{ℕ, Bool, true, false, ◌||◌, List, ◌++◌, Option, Some, None, codes, if◌then◌else◌}
 use Rattle.std.specs.Str.{bytes_eq}
 use Rattle.ti_names.specs.declared.name_table.NameTable.{NameTable}
 use Rattle.ti_names.specs.declared.name_table.NameTable.TheVariants as tables
@@ -106,15 +106,16 @@ abbrev pub naming_of : Bool → Bool → Bool → Naming
 naming_of all_names escape terminal =
     record { table = name_table_of all_names; form = name_form_of escape terminal }
 
--- the options of a listing by the same
-abbrev pub list_options : Bool → Bool → Bool → ListOptions
-list_options all_names escape terminal =
-    record { naming = naming_of all_names escape terminal; form = form_of escape }
+-- the options of a listing by the two flags
+abbrev pub list_options : Bool → Bool → ListOptions
+list_options all_names escape =
+    record { naming = naming_of all_names escape false; form = form_of escape }
 
--- what `show` asks for by the same, and by `--json`
+-- what `show` asks for by `--json` and both; a listing at a terminal is one as if both were given
 abbrev pub show_action : Bool → Bool → Bool → Bool → EntryAction
 show_action true all_names escape terminal = of_entry.Json documents.Listing
-show_action false all_names escape terminal = of_entry.Show (list_options all_names escape terminal)
+show_action false all_names escape terminal =
+    of_entry.Show (list_options (all_names || terminal) (escape || terminal))
 
 -- what `check` asks for by the same
 abbrev pub check_action : Bool → Bool → Bool → Bool → EntryAction

@@ -95,24 +95,25 @@ pub fn naming_of(all_names: bool, escape: bool, terminal: bool) -> Naming
     }
 }
 
-/// The options of a listing by its flags, and by whether it goes to a terminal.
-pub fn list_options(all_names: bool, escape: bool, terminal: bool) -> ListOptions
-    ensures { result ≡ the_list_options all_names escape terminal }
+/// The options of a listing by its flags.
+pub fn list_options(all_names: bool, escape: bool) -> ListOptions
+    ensures { result ≡ the_list_options all_names escape }
 {
     ListOptions {
-        naming: naming_of(all_names, escape, terminal),
+        naming: naming_of(all_names, escape, false),
         form: form_of(escape),
     }
 }
 
-/// What `show` requests of an entry, which `--json` makes a document.
+/// What `show` requests of an entry, which `--json` makes a document. At a terminal its lines are for people: as if
+/// `--all-names` and `--escape` were given.
 pub fn show_action<'a>(json: bool, all_names: bool, escape: bool, terminal: bool) -> EntryAction<'a>
     ensures { result ≡ the_show_action json all_names escape terminal }
 {
     if json {
         EntryAction::Json(Document::Listing)
     } else {
-        EntryAction::Show(list_options(all_names, escape, terminal))
+        EntryAction::Show(list_options(all_names || terminal, escape || terminal))
     }
 }
 

@@ -1,5 +1,5 @@
 -- What two files lead to.
-use Rattle.std.proofs.Common.{◌≡◌, ◌∙◌, ◌==◌, ◌<◌, ℕ, true, false, true≢false, List, [], ◌∷◌, length, map, inl, inr, refl, ap, arith, subst, sym}
+use Rattle.std.proofs.Common.{◌≡◌, ◌∙◌, ◌==◌, ◌<◌, ℕ, Bool, true, false, true≢false, List, [], ◌∷◌, length, map, inl, inr, refl, ap, arith, subst, sym}
 use Rattle.std.proofs.lemmas.Bool.{eqb-true}
 use Rattle.std.specs.Prelude.{Option, Result, Ok, Err, IfOk, IfSome, MatchResult, unwrap_or}
 use Rattle.ti_words.specs.Spelling.{Spells}
@@ -24,16 +24,16 @@ pub high_status : {X : Type 0} (value : X → DifferenceValue) (told : List X) (
 high_status value [] len is some = absurd (true≢false (ap (λ n. n == 0) is ∙ some))
 high_status value (d ∷ ds) len is some = refl
 
-module _ (F : Type 0) (O : Type 0) (bytes line : O → List ℕ) (status : O → ℕ) (by : Likeness) (form : Comparison) (file other : List ℕ) where
+module _ (F : Type 0) (O : Type 0) (bytes line : O → List ℕ) (status : O → ℕ) (has_advice : Bool) (by : Likeness) (form : Comparison) (file other : List ℕ) where
   -- both are entries
   pub both_entries : (r : Result O F) (contents of_other : List ℕ) (v w : EntryValue) → Spells contents v → Spells of_other w → IfOk r (λ o. AreCompared by form v w (bytes o) (line o) (status o))
-      → IfOk r (λ o. IsCompared by form file other contents of_other (bytes o) (line o) (status o))
+      → IfOk r (λ o. IsCompared has_advice by form file other contents of_other (bytes o) (line o) (status o))
   both_entries (Ok o) contents of_other v w spells spells_too led = inl (v, w, spells, spells_too, led)
   both_entries (Err e) contents of_other v w spells spells_too led = tt
 
   -- the other file is no entry
-  pub other_refused : (r : Result O F) (contents of_other : List ℕ) (v : EntryValue) → Spells contents v → IfOk r (λ o. IsRefusedFile other of_other (bytes o) (line o) (status o))
-      → IfOk r (λ o. IsCompared by form file other contents of_other (bytes o) (line o) (status o))
+  pub other_refused : (r : Result O F) (contents of_other : List ℕ) (v : EntryValue) → Spells contents v → IfOk r (λ o. IsRefusedFile has_advice other of_other (bytes o) (line o) (status o))
+      → IfOk r (λ o. IsCompared has_advice by form file other contents of_other (bytes o) (line o) (status o))
   other_refused (Ok o) contents of_other v spells refused = inr (inr ((v, spells), refused))
   other_refused (Err e) contents of_other v spells refused = tt
 
@@ -42,9 +42,9 @@ abbrev Reads : KnownFiles → List ℕ → Stream → Stream → List ℕ → Ty
 Reads known name before after read = IsReadFrom (is_minus name) (known.contents name) before after read
 
 -- what the two files hold, or that one is not read
-module _ {F O : Type 0} (bytes line : O → List ℕ) (status : O → ℕ) (known : KnownFiles) (d : Pair) (left0 between left1 : Stream) where
+module _ {F O : Type 0} (bytes line : O → List ℕ) (status : O → ℕ) (known : KnownFiles) (has_advice : Bool) (d : Pair) (left0 between left1 : Stream) where
   abbrev pub Led : Result O F → Type 0
-  Led r = IfOk r (λ o. (one : Supply) × (two : Supply) × AreSupplied known d left0 left1 one two × IsComparison d.likeness d.form d.file.now d.other.now one two (bytes o) (line o) (status o))
+  Led r = IfOk r (λ o. (one : Supply) × (two : Supply) × AreSupplied known d left0 left1 one two × IsComparison has_advice d.likeness d.form d.file.now d.other.now one two (bytes o) (line o) (status o))
 
   pub first_unread : (r : Result O F) → IfOk r (λ o. IsUnread d.file.now (bytes o) (line o) (status o)) → Led r
   first_unread (Ok o) unread = (Unread, Unread, (between, tt, tt), unread)
@@ -55,7 +55,7 @@ module _ {F O : Type 0} (bytes line : O → List ℕ) (status : O → ℕ) (know
   other_unread (Err e) contents read unread = tt
 
   pub both_read : (r : Result O F) (contents of_other one two : List ℕ) → Reads known d.file.now left0 between contents → Reads known d.other.now between left1 of_other → one ≡ contents → two ≡ of_other
-      → IfOk r (λ o. IsCompared d.likeness d.form d.file.now d.other.now one two (bytes o) (line o) (status o)) → Led r
+      → IfOk r (λ o. IsCompared has_advice d.likeness d.form d.file.now d.other.now one two (bytes o) (line o) (status o)) → Led r
   both_read (Ok o) contents of_other one two read again is too compared = (
     Contents one,
     Contents two,
@@ -65,10 +65,10 @@ module _ {F O : Type 0} (bytes line : O → List ℕ) (status : O → ℕ) (know
   both_read (Err e) contents of_other one two read again is too compared = tt
 
 -- what they led to is written
-pub ran_difference : {F O : Type 0} (bytes line : O → List ℕ) (code : O → ℕ) (known : KnownFiles) (d : Pair) (before after : Streams) (outcome : Result O F) (answer : Option ℕ) (status : ℕ) (V : Type 0)
-    → IfOk outcome (λ o. (one : Supply) × (two : Supply) × AreSupplied known d before.left after.left one two × IsComparison d.likeness d.form d.file.now d.other.now one two (bytes o) (line o) (code o))
+pub ran_difference : {F O : Type 0} (bytes line : O → List ℕ) (code : O → ℕ) (known : KnownFiles) (has_advice : Bool) (d : Pair) (before after : Streams) (outcome : Result O F) (answer : Option ℕ) (status : ℕ) (V : Type 0)
+    → IfOk outcome (λ o. (one : Supply) × (two : Supply) × AreSupplied known d before.left after.left one two × IsComparison has_advice d.likeness d.form d.file.now d.other.now one two (bytes o) (line o) (code o))
     → MatchResult outcome (λ o. Delivered before.held after.held before.told after.told answer (bytes o) (line o) (code o)) (λ _. Delivered before.held after.held before.told after.told answer [] (fault_line fault.Memory) 6)
-    → status ≡ unwrap_or answer 5 → IfSome answer (λ s. 1 < s → V) → RanDifference known d V before after status
-ran_difference bytes line code known d before after (Ok o) answer status V (one, two, supplied, led) delivered is kept = (one, two, supplied, (bytes o, line o, code o, led, (answer, delivered, is, kept)))
-ran_difference bytes line code known d before after (Err e) answer status V led delivered is kept =
+    → status ≡ unwrap_or answer 5 → IfSome answer (λ s. 1 < s → V) → RanDifference known has_advice d V before after status
+ran_difference bytes line code known has_advice d before after (Ok o) answer status V (one, two, supplied, led) delivered is kept = (one, two, supplied, (bytes o, line o, code o, led, (answer, delivered, is, kept)))
+ran_difference bytes line code known has_advice d before after (Err e) answer status V led delivered is kept =
     (NoMemory, NoMemory, (before.left, tt, tt), ([], fault_line fault.Memory, 6, (refl, refl, refl), (answer, delivered, is, kept)))

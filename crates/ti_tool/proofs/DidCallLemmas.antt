@@ -1,6 +1,6 @@
 -- How a request is answered, from what is read, and what a call has done.
-use Rattle.std.proofs.Common.{◌≡◌, ◌<◌, ℕ, Bool, ◌⊎◌, inl, inr, List, [], Ok, Err, Some, None, refl, subst, sym, ap, ◌∙◌}
-use Rattle.std.specs.Prelude.{Option, Result, IfErr, IfOk, IfSome, MatchResult, true, unwrap_or}
+use Rattle.std.proofs.Common.{◌≡◌, ◌<◌, ℕ, Bool, ◌⊎◌, inl, inr, List, [], ◌++◌, Ok, Err, Some, None, append-nil, refl, subst, sym, ap, ◌∙◌}
+use Rattle.std.specs.Prelude.{Option, Result, IfErr, IfOk, IfSome, MatchResult, false, true, unwrap_or}
 use Rattle.std.specs.Io.KnownBytes.{Consumes, IsAtEnd}
 use Rattle.std.proofs.KnownBytes.{Keeps-refl}
 use Rattle.ti_tool.specs.declared.fault.ToolFault.{ToolFault}
@@ -19,14 +19,15 @@ use Rattle.ti_line.specs.declared.request.Action.TheVariants.{Capability, Differ
 use Rattle.ti_line.specs.declared.request.EntryAction.{EntryAction}
 use Rattle.ti_line.specs.declared.request.EntryAction.TheVariants as of_entry
 use Rattle.ti_tool.specs.Calls.{DidCall, DidCheck, FailsAsDue, HasReadEnough, IsEnough, IsFailedWrite, Wrote, stop_fault}
+use Rattle.ti_tool.specs.Advice.{IsAdvised, hints}
+use Rattle.ti_tool.specs.declared.extras.Extras.{Extras}
 use Rattle.ti_tool.specs.FaultLines.{IsAnswerLine, action_line, fault_line}
 use Rattle.ti_tool.specs.FileRuns.{Contents, Delivered, IsInput, IsOutcomeOfInput, NoMemory, RanInput, Supply, Unread, looked}
 use Rattle.ti_tool.specs.Results.{Finds, IsAnswer, IsDueIn}
-use Rattle.ti_lint.specs.declared.lint_options.LintOptions.{LintOptions}
 use Rattle.ti_tool.specs.Summaries.{IsSummarized}
 use Rattle.ti_tool.specs.Statuses.{status_for}
 use Rattle.ti_tool.specs.Streams.{Streams}
-use Rattle.ti_tool.specs.inner.Answered.{HasFault, HasOutput, IsKept}
+use Rattle.ti_tool.specs.inner.Answered.{HasFault, HasOutput, IsKept, held_of}
 use Rattle.ti_tool.proofs.IsDueLemmas.{IsNeverOwn, output_never, source_never}
 use Rattle.ti_tool.proofs.NeedsMemoryLemmas.{due_from}
 use Rattle.ti_tool.proofs.OneResultLemmas.{entry_never}
@@ -111,8 +112,8 @@ entry_answered passed out (Err why) e kept bytes v spells same due fails = (
 )
   where
     is_kept : (e : EntryAction) (kept : List ℕ) (why : ToolFault) → IsKept (Entry e) kept kept why
-    is_kept e kept fault.NoSuchName = refl
-    is_kept e kept other = tt
+    is_kept e kept (fault.Entry refused) = tt
+    is_kept e kept other = refl
 
 module _ (action : Action) (left0 left1 : Option (List ℕ)) where
   -- a call that was answered with a fault
@@ -140,33 +141,64 @@ read_line (Entry (of_entry.Get g)) near = refl
 read_line (Entry (of_entry.Trace t)) near = refl
 read_line action near = refl
 
-told_of_kept : (action : Action) (kept bytes : List ℕ) (e : ToolFault) (line : List ℕ) → IsKept action kept bytes e → IsAnswerLine {V = Bool} action kept (Err e) line → IsAnswerLine {V = Bool} action bytes (Err e) line
-told_of_kept (Entry (of_entry.Get g)) kept bytes fault.NoSuchName line same is =
-    subst (λ (x : List ℕ). IsAnswerLine {V = Bool} (Entry (of_entry.Get g)) x (Err fault.NoSuchName) line) same is
-told_of_kept (Entry (of_entry.Trace t)) kept bytes fault.NoSuchName line same is =
-    subst (λ (x : List ℕ). IsAnswerLine {V = Bool} (Entry (of_entry.Trace t)) x (Err fault.NoSuchName) line) same is
-told_of_kept action kept bytes e line same is = is
+-- no advice comes after it
+read_alone : (has_advice : Bool) (action : Action) (input advice : List ℕ) → IsAdvised (hints has_advice []) action input fault.Read advice → advice ≡ []
+read_alone false action input advice is = is
+read_alone true (Capability c) input advice is = is
+read_alone true (Source c) input advice is = is
+read_alone true (Difference d) input advice is = is
+read_alone true (Entry (of_entry.Expand e)) input advice is = is
+read_alone true (Entry e) input advice is = is
 
-module _ (action : Action) where
+read_told : (has_advice : Bool) (action : Action) (input told : List ℕ) (why : ToolFault) → why ≡ fault.Read → IsAnswerLine {V = Bool} (hints has_advice []) action input (Err why) told → told ≡ fault_line fault.Read
+read_told has_advice action input told why read is =
+    let (near, are, (advice, advised, says)) = subst (λ w. IsAnswerLine {V = Bool} (hints has_advice []) action input (Err w) told) read is in
+    says ∙ ap (λ a. action_line action near fault.Read ++ a) (read_alone has_advice action input advice advised) ∙ append-nil (action_line action near fault.Read) ∙ read_line action near
+
+-- the line on a fault of what is held is that of what was read
+refused_told : (known : Option (List ℕ)) (e : EntryAction) (r : Refused) (kept bytes line : List ℕ) → IsAnswerLine {V = Bool} known (Entry e) kept (Err (fault.Entry r)) line → IsAnswerLine {V = Bool} known (Entry e) bytes (Err (fault.Entry r)) line
+refused_told None (of_entry.Get g) r kept bytes line told = told
+refused_told None (of_entry.Trace t) r kept bytes line told = told
+refused_told None e r kept bytes line told = told
+refused_told (Some front) (of_entry.Get g) r kept bytes line told = told
+refused_told (Some front) (of_entry.Trace t) r kept bytes line told = told
+refused_told (Some front) (of_entry.Expand x) r kept bytes line told = told
+refused_told (Some front) e r kept bytes line told = told
+
+told_of_kept : (known : Option (List ℕ)) (action : Action) (kept bytes : List ℕ) (e : ToolFault) (line : List ℕ) → IsKept action kept bytes e → IsAnswerLine {V = Bool} known action kept (Err e) line → IsAnswerLine {V = Bool} known action bytes (Err e) line
+told_of_kept known (Entry e) kept bytes (fault.Entry r) line same is = refused_told known e r kept bytes line is
+told_of_kept known action kept bytes e line same is = subst (λ (x : List ℕ). IsAnswerLine {V = Bool} known action x (Err e) line) same is
+
+-- what is held says no less of an output than what is kept of an entry
+pub held_output : (action : Action) (supply : Supply) (kept input : List ℕ) (passed : Bool) (out : List ℕ) → HasOutput action (held_of action kept input) supply passed out → HasOutput action kept supply passed out
+held_output (Entry e) supply kept input passed out h = h
+held_output (Capability c) (Contents bytes) kept input passed out h = h
+held_output (Source c) (Contents bytes) kept input passed out h = h
+held_output (Difference d) (Contents bytes) kept input passed out h = h
+held_output action Unread kept input passed out h = h
+held_output action NoMemory kept input passed out h = h
+
+module _ (has_advice : Bool) (action : Action) where
   pub output_leads : (supply : Supply) (kept : List ℕ) (passed : Bool) (out bytes line : List ℕ) (status : ℕ) → HasOutput action kept supply passed out → Finds action passed → bytes ≡ out → line ≡ [] → status ≡ status_for (Ok passed)
-      → IsOutcomeOfInput action supply bytes line status
+      → IsOutcomeOfInput has_advice action supply bytes line status
   output_leads (Contents input) kept passed out bytes line status (due, keeps) finds same none is =
       (Ok passed, is, (finds, subst (λ (b : List ℕ). IsAnswer action passed input (Ok b)) (sym same) due, none))
   output_leads Unread kept passed out bytes line status due finds same none is = absurd due
   output_leads NoMemory kept passed out bytes line status due finds same none is = absurd due
 
-  pub fault_leads : (supply : Supply) (kept held : List ℕ) (why : ToolFault) (told bytes line : List ℕ) (status : ℕ) → HasFault action kept supply why → held ≡ kept → IsAnswerLine {V = Bool} action held (Err why) told
-      → line ≡ told → bytes ≡ [] → status ≡ status_for (Err why) → IsOutcomeOfInput action supply bytes line status
+  pub fault_leads : (supply : Supply) (kept held : List ℕ) (why : ToolFault) (told bytes line : List ℕ) (status : ℕ) → HasFault action kept supply why → held ≡ kept → IsAnswerLine {V = Bool} (hints has_advice []) action held (Err why) told
+      → line ≡ told → bytes ≡ [] → status ≡ status_for (Err why) → IsOutcomeOfInput has_advice action supply bytes line status
   fault_leads (Contents input) kept held why told bytes line status (due, is_kept) holds is_told same none is =
-      let OfKept : List ℕ → Type 0 = λ x. IsAnswerLine {V = Bool} action x (Err why) told in
-      (Err why, is, (due, none, (told, told_of_kept action kept input why told is_kept (subst OfKept holds is_told), same)))
-  fault_leads Unread kept held why told bytes line status read holds (near, are, says) same none is =
-      (none, same ∙ says ∙ ap (action_line action near) read ∙ read_line action near, is ∙ ap (λ w. status_for (Err w)) read)
-  fault_leads NoMemory kept held why told bytes line status read holds (near, are, says) same none is =
-      (none, same ∙ says ∙ ap (action_line action near) read ∙ read_line action near, is ∙ ap (λ w. status_for (Err w)) read)
+      let OfKept : List ℕ → Type 0 = λ x. IsAnswerLine {V = Bool} (hints has_advice []) action x (Err why) told in
+      (Err why, is, (due, none, (told, told_of_kept (hints has_advice []) action kept input why told is_kept (subst OfKept holds is_told), same)))
+  fault_leads Unread kept held why told bytes line status read holds is_told same none is =
+      (none, same ∙ read_told has_advice action held told why read is_told, is ∙ ap (λ w. status_for (Err w)) read)
+  fault_leads NoMemory kept held why told bytes line status read holds is_told same none is =
+      (none, same ∙ read_told has_advice action held told why read is_told, is ∙ ap (λ w. status_for (Err w)) read)
 
+module _ (action : Action) where
   -- a request of standard input that leads to something, which is delivered
-  pub ran_input : (summary : Option LintOptions) (supply : Supply) (V : Type 0) (before between after : Streams) (out line : List ℕ) (code status : ℕ) → IsInput action before.left between.left supply → IsOutcomeOfInput action supply out line code
+  pub ran_input : (extras : Extras) (supply : Supply) (V : Type 0) (before between after : Streams) (out line : List ℕ) (code status : ℕ) → IsInput action before.left between.left supply → IsOutcomeOfInput extras.has_advice action supply out line code
       → ((answer : Option ℕ) × Delivered before.held between.held before.told between.told answer out line code × (status ≡ unwrap_or answer 5) × IfSome answer (λ s. 1 < s → V))
-      → IsSummarized summary (looked supply status) between after → RanInput summary action V before after status
-  ran_input summary supply V before between after out line code status read led delivered sums = (supply, between, read, (out, line, code, led, delivered), sums)
+      → IsSummarized extras.summary (looked supply status) between after → RanInput extras action V before after status
+  ran_input extras supply V before between after out line code status read led delivered sums = (supply, between, read, (out, line, code, led, delivered), sums)

@@ -17,6 +17,8 @@ use Rattle.ti_line.specs.declared.request.EntryAction.{EntryAction}
 use Rattle.ti_tool.specs.declared.fault.ToolFault.TheVariants as fault
 use Rattle.ti_tool.specs.declared.fault.ToolFault.{ToolFault}
 use Rattle.ti_tool.specs.Calls.{FailsAsDue}
+use Rattle.ti_tool.specs.Advice.{hints}
+use Rattle.ti_tool.specs.declared.extras.Extras.{Extras}
 use Rattle.ti_tool.specs.FaultLines.{IsAnswerLine, Told, fault_line}
 use Rattle.ti_tool.specs.Files.{before_findings, file_line}
 use Rattle.ti_tool.specs.Results.{IsDueOf}
@@ -105,7 +107,7 @@ found_word known e words i d start several more files all one lines says within 
 -- a fault of a file is what its contents lead to
 pub fault_led : {O F : Type 0} (bytes line : O → List ℕ) (status : O → ℕ) (job : Job) (name contents told said : List ℕ) (why : ToolFault) (code : ℕ) (r : Result O F)
     → FailsAsDue (IsDueOf (before_findings job.are_several name) job.e true contents) why
-    → IsAnswerLine {V = Bool} (Entry job.e) contents (Err why) told → said ≡ told → code ≡ status_for (Err why) → IfOk r (λ o. (bytes o ≡ []) × (line o ≡ file_line name said) × (status o ≡ code))
+    → IsAnswerLine {V = Bool} (hints job.has_advice contents) (Entry job.e) contents (Err why) told → said ≡ told → code ≡ status_for (Err why) → IfOk r (λ o. (bytes o ≡ []) × (line o ≡ file_line name said) × (status o ≡ code))
     → IfOk r (λ o. IsOutcomeOfContents job name contents (bytes o) (line o) (status o))
 fault_led bytes line status job name contents told said why code (Ok o) due is same coded (b, l, s) = (Err why, s ∙ coded, (due, b, (told, is, l ∙ ap (file_line name) same)))
 fault_led bytes line status job name contents told said why code (Err f) due is same coded led = tt
@@ -208,12 +210,12 @@ module _ (known : KnownFiles) (job : Job) where
   ran_all files a b c greatest tally (dones, are, did, is, counted) sums = inl (dones, b, are, did, sums (all_looked dones) counted, is)
 
 -- files that words name are done
-pub ran_files : (known : KnownFiles) (summary : Option LintOptions) (e : EntryAction) (words : List (List ℕ)) (founds : List Lookup) (files : List FileName) (several : Bool) (lines : List ℕ) (before between after : Streams) (code status : ℕ)
+pub ran_files : (known : KnownFiles) (extras : Extras) (e : EntryAction) (words : List (List ℕ)) (founds : List Lookup) (files : List FileName) (several : Bool) (lines : List ℕ) (before between after : Streams) (code status : ℕ)
     → AreLookups known e words founds → files ≡ flat_map (λ l. l.files) founds → several ≡ are_several words founds → lines ≡ lines_on_none e words founds
-    → RanFound known (record { e = e; are_several = several; summary = summary }) files before between code → EndsWithNone lines code between after status → RanFiles known summary e words before after status
-ran_files known summary e words founds files several lines before between after code status are is some said ran ends =
-    let OfFiles : List FileName → Type 0 = λ fs. RanFound known (record { e = e; are_several = several; summary = summary }) fs before between code in
-    let OfSeveral : Bool → Type 0 = λ b. RanFound known (record { e = e; are_several = b; summary = summary }) (flat_map (λ l. l.files) founds) before between code in
+    → RanFound known (record { e = e; are_several = several; summary = extras.summary; has_advice = extras.has_advice }) files before between code → EndsWithNone lines code between after status → RanFiles known extras e words before after status
+ran_files known extras e words founds files several lines before between after code status are is some said ran ends =
+    let OfFiles : List FileName → Type 0 = λ fs. RanFound known (record { e = e; are_several = several; summary = extras.summary; has_advice = extras.has_advice }) fs before between code in
+    let OfSeveral : Bool → Type 0 = λ b. RanFound known (record { e = e; are_several = b; summary = extras.summary; has_advice = extras.has_advice }) (flat_map (λ l. l.files) founds) before between code in
     let WithNone : List ℕ → Type 0 = λ l. EndsWithNone l code between after status in
     inl (founds, are, between, code, subst OfSeveral some (subst OfFiles is ran), subst WithNone said ends)
 
@@ -228,21 +230,21 @@ lines_end [] left held told0 told1 code status some told is = absurd (cc (some))
 lines_end (b ∷ bs) left held told0 told1 code status some told is = (refl, refl, told, is)
 
 -- what is done with files is done for the request of them
-pub request_of_files : (known : KnownFiles) (summary : Option LintOptions) (files : List (Bor (List ℕ))) (action : Action) (e : EntryAction) (V : Type 0) (before after : Streams) (status : ℕ) → action ≡ Entry e → (length files == 0) ≡ false
-    → RanFiles known summary e (texts_of files) before after status → RanRequest known summary action (texts_of files) V before after status
-request_of_files known summary [] action e V before after status is some ran = absurd (cc (some))
-request_of_files known summary (file ∷ files) action e V before after status is some ran =
-    let Ran : Action → Type 0 = λ a. RanRequest known summary a (texts_of (file ∷ files)) V before after status in subst Ran (sym is) ran
+pub request_of_files : (known : KnownFiles) (extras : Extras) (files : List (Bor (List ℕ))) (action : Action) (e : EntryAction) (V : Type 0) (before after : Streams) (status : ℕ) → action ≡ Entry e → (length files == 0) ≡ false
+    → RanFiles known extras e (texts_of files) before after status → RanRequest known extras action (texts_of files) V before after status
+request_of_files known extras [] action e V before after status is some ran = absurd (cc (some))
+request_of_files known extras (file ∷ files) action e V before after status is some ran =
+    let Ran : Action → Type 0 = λ a. RanRequest known extras a (texts_of (file ∷ files)) V before after status in subst Ran (sym is) ran
 
 pub some_files : (files : List (Bor (List ℕ))) → (length files == 0) ≡ false → texts_of files ≡ [] → ⊥
 some_files [] some none = cc (some)
 some_files (file ∷ files) some none = cc (none)
 
 -- what is done with standard input is done for the request of no file
-pub request_of_none : (known : KnownFiles) (summary : Option LintOptions) (files : List (Bor (List ℕ))) (action : Action) (e : EntryAction) (V : Type 0) (before after : Streams) (status : ℕ) → action ≡ Entry e → (length files == 0) ≡ true
-    → RanInput summary action V before after status → RanRequest known summary action (texts_of files) V before after status
-request_of_none known summary [] action e V before after status is none ran =
-    let Ran : Action → Type 0 = λ a. RanRequest known summary a [] V before after status in
-    let Input : Action → Type 0 = λ a. RanInput summary a V before after status in
+pub request_of_none : (known : KnownFiles) (extras : Extras) (files : List (Bor (List ℕ))) (action : Action) (e : EntryAction) (V : Type 0) (before after : Streams) (status : ℕ) → action ≡ Entry e → (length files == 0) ≡ true
+    → RanInput extras action V before after status → RanRequest known extras action (texts_of files) V before after status
+request_of_none known extras [] action e V before after status is none ran =
+    let Ran : Action → Type 0 = λ a. RanRequest known extras a [] V before after status in
+    let Input : Action → Type 0 = λ a. RanInput extras a V before after status in
     subst Ran (sym is) (subst Input is ran)
-request_of_none known summary (file ∷ files) action e V before after status is none ran = let empty = eqb-true (length (file ∷ files)) 0 none in absurd (omega (arith, empty))
+request_of_none known extras (file ∷ files) action e V before after status is none ran = let empty = eqb-true (length (file ∷ files)) 0 none in absurd (omega (arith, empty))

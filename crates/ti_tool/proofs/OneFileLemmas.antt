@@ -1,7 +1,7 @@
 -- A request has one verdict, and the contents of a file lead to one result.
-use Rattle.std.proofs.Common.{◌≡◌, ◌≢◌, ◌⊎◌, ◌∙◌, ◌==◌, ℕ, Bool, true, List, [], ◌∷◌, Ok, Err, inl, inr, ap, length, map, refl, subst, sym}
-use Rattle.std.specs.Prelude.{Option, None, Some, Result, max}
-use Rattle.ti_words.specs.Items.{FlagItem, ItemValue, NumberItem, TextItem}
+use Rattle.std.proofs.Common.{◌≡◌, ◌≢◌, ◌⊎◌, ◌∙◌, ◌==◌, ℕ, Bool, true, List, [], ◌∷◌, ◌++◌, Ok, Err, inl, inr, ap, ap₂, append-nil, length, map, refl, subst, sym}
+use Rattle.std.specs.Prelude.{Option, None, Some, Result, max, option_and_then}
+use Rattle.ti_words.specs.Items.{FlagItem, ItemValue, NumberItem, TextItem, text_in}
 use Rattle.ti_words.specs.Texts.{AbsentText, CancelledText, TextOf}
 use Rattle.ti_words.specs.Value.{EntryValue}
 use Rattle.ti_entry.proofs.SpellsAtMostOneLemmas.{at_most_one}
@@ -16,6 +16,8 @@ use Rattle.ti_report.proofs.OneReportLemmas.{one_findings, one_lines}
 use Rattle.ti_tool.specs.declared.fault.ToolFault.{ToolFault}
 use Rattle.ti_tool.specs.declared.fault.ToolFault.TheVariants as fault
 use Rattle.ti_tool.specs.Documents.{AreObjects, FindsIn}
+use Rattle.ti_cap.specs.declared.language.CapRefused.{CapRefused}
+use Rattle.ti_tool.specs.Advice.{IsAdvice, IsAdvised, IsEntryAdvice, IsNamed, advice_if, hints}
 use Rattle.ti_tool.specs.FaultLines.{AreTold, AreToldFor, IsAnswerLine, action_line}
 use Rattle.ti_tool.specs.FileRuns.{AnswerLeadsTo, Contents, IsDueOfJob, IsOutcome, Job, NoMemory, Supply, Unread, greatest_status}
 use Rattle.ti_tool.specs.Files.{before_findings, file_line, result_of_file}
@@ -24,9 +26,10 @@ use Rattle.ti_tool.specs.Near.{AreNearest}
 use Rattle.ti_tool.specs.Laws.{AreOneLine, FileHasOneResult, HasOneVerdict, InputHasOneResult, RunsHaveOneResult, untold_line}
 use Rattle.ti_tool.specs.Results.{Finds, IsAnswer, IsDueIn, IsDueOf}
 use Rattle.ti_tool.specs.Statuses.{status_for}
-use Rattle.ti_tool.specs.declared.item_name.Names.TheVariants.{All}
+use Rattle.ti_tool.specs.declared.item_name.Names.TheVariants.{All, Texts}
 use Rattle.ti_tool.proofs.IsItemCalledLemmas.{one_item}
 use Rattle.ti_tool.proofs.NearLemmas.{one_nearest}
+use Rattle.ti_tool.proofs.NeedsMemoryLemmas.{never_refused}
 use Rattle.ti_tool.proofs.OneResultLemmas.{one_answer, one_objects, one_of, one_verdicts}
 
 -- ---- the verdict
@@ -86,25 +89,59 @@ one_told (Entry (of_entry.Get g)) contents fault.NoSuchName near other told agai
 one_told (Entry (of_entry.Trace t)) contents fault.NoSuchName near other told again = told_for contents t.name.now near other told again
 one_told action contents why near other told again = inl (told ∙ sym again)
 
-module _ (action : Action) (called : List ℕ → List ℕ) (contents : List ℕ) where
-  one_line : (why : ToolFault) (line other : List ℕ) → IsAnswerLine {V = Bool} action contents (Err why) line → IsAnswerLine {V = Bool} action contents (Err why) other
+-- a request names one value
+one_named : (e : EntryAction) (v : EntryValue) (item other : Option ItemValue) → IsNamed e v item → IsNamed e v other → item ≡ other
+one_named (of_entry.Expand e) v item other is too = one_item (Texts e.name.names) v e.name.name.now item other is too
+one_named (of_entry.Get g) v item other is too = one_item All v g.name.now item other is too
+one_named (of_entry.Trace t) v item other is too = one_item All v t.name.now item other is too
+one_named e v item other is too = is ∙ sym too
+
+one_entry_advice : (e : EntryAction) (input : List ℕ) (refused : CapRefused) (advice other : List ℕ) → IsEntryAdvice e input refused advice → IsEntryAdvice e input refused other → advice ≡ other
+one_entry_advice e input refused advice other (inl (r, refuses, is)) (inl (q, again, too)) = is ∙ sym too
+one_entry_advice e input refused advice other (inl (r, refuses, is)) (inr (v, spells, named)) = absurd (never_refused input v r spells refuses)
+one_entry_advice e input refused advice other (inr (v, spells, named)) (inl (r, refuses, is)) = absurd (never_refused input v r spells refuses)
+one_entry_advice e input refused advice other (inr (v, spells, (item, named, is))) (inr (w, spelt, (its, also, too))) =
+    let same = subst (λ (x : EntryValue). IsNamed e x its) (at_most_one input w v spelt spells) also in
+    is ∙ ap (λ i. advice_if (option_and_then text_in i) refused) (one_named e v item its named same) ∙ sym too
+
+one_advice : (front : List ℕ) (action : Action) (input : List ℕ) (why : ToolFault) (advice other : List ℕ) → IsAdvice front action input why advice → IsAdvice front action input why other → advice ≡ other
+one_advice front (Capability c) input (fault.Cap refused) advice other is too = is ∙ sym too
+one_advice front (Source c) input (fault.Cap refused) advice other is too = is ∙ sym too
+one_advice front (Entry e) input (fault.Cap refused) advice other is too = one_entry_advice e input refused advice other is too
+one_advice front action input why advice other is too = is ∙ sym too
+
+one_advised : (known : Option (List ℕ)) (action : Action) (input : List ℕ) (why : ToolFault) (advice other : List ℕ) → IsAdvised known action input why advice → IsAdvised known action input why other → advice ≡ other
+one_advised None action input why advice other is too = is ∙ sym too
+one_advised (Some front) action input why advice other is too = one_advice front action input why advice other is too
+
+-- no advice comes after the line on a name that nothing has
+nameless : (known : Option (List ℕ)) (action : Action) (input advice : List ℕ) → IsAdvised known action input fault.NoSuchName advice → advice ≡ []
+nameless None action input advice is = is
+nameless (Some front) (Entry (of_entry.Expand e)) input advice is = is
+nameless (Some front) (Entry e) input advice is = is
+nameless (Some front) action input advice is = is
+
+module _ (known : Option (List ℕ)) (action : Action) (called : List ℕ → List ℕ) (contents : List ℕ) where
+  one_line : (why : ToolFault) (line other : List ℕ) → IsAnswerLine {V = Bool} known action contents (Err why) line → IsAnswerLine {V = Bool} known action contents (Err why) other
       → AreOneLine action called (called line) (called other)
-  one_line why line other (near, told, is) (nears, again, too) = go (one_told action contents why near nears told again)
+  one_line why line other (near, told, (advice, advised, is)) (nears, again, (its, also, too)) = go (one_told action contents why near nears told again)
     where
-      untold : (ns : List (List ℕ)) (l : List ℕ) → why ≡ fault.NoSuchName → ns ≡ [] → l ≡ action_line action ns why → called l ≡ untold_line action called
-      untold ns l missing none at = ap called (at ∙ ap (λ n. action_line action n why) none ∙ ap (action_line action []) missing)
+      untold : (ns : List (List ℕ)) (l a : List ℕ) → why ≡ fault.NoSuchName → ns ≡ [] → IsAdvised known action contents why a → l ≡ action_line action ns why ++ a → called l ≡ untold_line action called
+      untold ns l a missing none advised at =
+          let alone = nameless known action contents a (subst (λ w. IsAdvised known action contents w a) missing advised) in
+          ap called (at ∙ ap (λ x. action_line action ns why ++ x) alone ∙ append-nil (action_line action ns why) ∙ ap (λ n. action_line action n why) none ∙ ap (action_line action []) missing)
 
       go : (near ≡ nears) ⊎ ((why ≡ fault.NoSuchName) × ((near ≡ []) ⊎ (nears ≡ []))) → AreOneLine action called (called line) (called other)
-      go (inl same) = inl (ap called (is ∙ ap (λ n. action_line action n why) same ∙ sym too))
-      go (inr (missing, inl none)) = inr (inl (untold near line missing none is))
-      go (inr (missing, inr none)) = inr (inr (untold nears other missing none too))
+      go (inl same) = inl (ap called (is ∙ ap₂ (λ n a. action_line action n why ++ a) same (one_advised known action contents why advice its advised also) ∙ sym too))
+      go (inr (missing, inl none)) = inr (inl (untold near line advice missing none advised is))
+      go (inr (missing, inr none)) = inr (inr (untold nears other its missing none also too))
 
   -- contents lead to one result, if what is due for them is one
   module _ (due : Bool → Result (List ℕ) ToolFault → Type 0) (one_due : (passed as_passed : Bool) (r q : Result (List ℕ) ToolFault) → due passed r → due as_passed q → r ≡ q)
       (verdict : (passed as_passed : Bool) (out outs : List ℕ) → due passed (Ok out) → due as_passed (Ok outs) → Finds action passed → Finds action as_passed → passed ≡ as_passed)
       (out outs line lines : List ℕ) (status code : ℕ) (low : status ≢ 6) (high : code ≢ 6) where
-    led : (answer other : Result Bool ToolFault) → status ≡ status_for answer → code ≡ status_for other → AnswerLeadsTo due action called contents answer out line
-        → AnswerLeadsTo due action called contents other outs lines → (out ≡ outs) × (status ≡ code) × AreOneLine action called line lines
+    led : (answer other : Result Bool ToolFault) → status ≡ status_for answer → code ≡ status_for other → AnswerLeadsTo due known action called contents answer out line
+        → AnswerLeadsTo due known action called contents other outs lines → (out ≡ outs) × (status ≡ code) × AreOneLine action called line lines
     led (Ok passed) (Ok as_passed) s t (finds, is, none) (found, too, empty) =
         let one : Ok out ≡ Ok outs = one_due passed as_passed (Ok out) (Ok outs) is too in
         let text : out ≡ outs = cc in
@@ -120,7 +157,7 @@ module _ (action : Action) (called : List ℕ → List ℕ) (contents : List ℕ
     led (Err why) (Err other) s t (inr is, none, (told, is_told, at)) (inr also, empty, (tolds, are_told, same)) =
         let one : Err why ≡ Err other = one_due true true (Err why) (Err other) is also in
         let fault_is : why ≡ other = cc in
-        let Line : ToolFault → Type 0 = λ w. IsAnswerLine {V = Bool} action contents (Err w) tolds in
+        let Line : ToolFault → Type 0 = λ w. IsAnswerLine {V = Bool} known action contents (Err w) tolds in
         let both = one_line why told tolds is_told (subst Line (sym fault_is) are_told) in
         let One : List ℕ → List ℕ → Type 0 = λ a b. AreOneLine action called a b in
         (none ∙ sym empty, s ∙ ap (λ w. status_for (Err w)) fault_is ∙ sym t, subst (λ (l : List ℕ). One l lines) (sym at) (subst (One (called told)) (sym same) both))
@@ -140,16 +177,16 @@ module _ (job : Job) (name contents : List ℕ) where
 
 pub one_file : FileHasOneResult
 one_file job name contents out outs line lines status code low high (answer, s, is) (other, t, too) =
-    led (Entry job.e) (file_line name) contents (IsDueOfJob job name contents) (one_due job name contents)
+    led (hints job.has_advice contents) (Entry job.e) (file_line name) contents (IsDueOfJob job name contents) (one_due job name contents)
     (λ passed as_passed out outs (plain, due, same) (plains, also, again) finds found. one_sound (before_findings job.are_several name) job.e contents plain plains passed as_passed due also finds found)
     out outs line lines status code low high answer other s t is too
 
 pub one_input : InputHasOneResult
-one_input action (Contents bytes) out outs line lines status code low high (answer, s, is) (other, t, too) =
-    led action (λ told. told) bytes (λ passed. IsAnswer action passed bytes) (λ passed as_passed. one_answer action bytes passed as_passed) (λ passed as_passed out outs. one_verdict action bytes out outs passed as_passed)
+one_input has_advice action (Contents bytes) out outs line lines status code low high (answer, s, is) (other, t, too) =
+    led (hints has_advice []) action (λ told. told) bytes (λ passed. IsAnswer action passed bytes) (λ passed as_passed. one_answer action bytes passed as_passed) (λ passed as_passed out outs. one_verdict action bytes out outs passed as_passed)
     out outs line lines status code low high answer other s t is too
-one_input action Unread out outs line lines status code low high (none, is, s) (empty, too, t) = (none ∙ sym empty, s ∙ sym t, inl (is ∙ sym too))
-one_input action NoMemory out outs line lines status code low high (none, is, s) (empty, too, t) = (none ∙ sym empty, s ∙ sym t, inl (is ∙ sym too))
+one_input has_advice action Unread out outs line lines status code low high (none, is, s) (empty, too, t) = (none ∙ sym empty, s ∙ sym t, inl (is ∙ sym too))
+one_input has_advice action NoMemory out outs line lines status code low high (none, is, s) (empty, too, t) = (none ∙ sym empty, s ∙ sym t, inl (is ∙ sym too))
 
 -- ---- runs
 
@@ -157,7 +194,7 @@ one_outcome : (job : Job) (name : List ℕ) (supply : Supply) (out outs line lin
     → IsOutcome job name supply outs lines code → (out ≡ outs) × (status ≡ code)
 one_outcome job name (Contents bytes) out outs line lines status code low high led too =
     let one = one_file job name bytes out outs line lines status code low high led too in (one.0, one.1)
-one_outcome job name Unread out outs line lines status code low high (reason, none, is, s) (other, empty, too, t) = (none ∙ sym empty, s ∙ sym t)
+one_outcome job name Unread out outs line lines status code low high (reason, missing, none, is, s) (other, lost, empty, too, t) = (none ∙ sym empty, s ∙ sym t)
 one_outcome job name NoMemory out outs line lines status code low high (none, is, s) too = absurd (low s)
 
 pub one_run : RunsHaveOneResult

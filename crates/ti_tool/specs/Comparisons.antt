@@ -1,5 +1,5 @@
 -- What a run of `diff` does with the two files that it compares.
-use Rattle.std.specs.Prelude.{◌≡◌, ◌⊎◌, ℕ, List, [], ◌∷◌, ◌++◌, codes, Some, false}
+use Rattle.std.specs.Prelude.{◌≡◌, ◌⊎◌, ℕ, Bool, List, [], ◌∷◌, ◌++◌, codes, Some, false}
 use Rattle.ti_layout.specs.declared.fault.Refused.{Refused}
 use Rattle.ti_layout.specs.Refusal.{refusal}
 use Rattle.ti_words.specs.Spelling.{Spells}
@@ -12,16 +12,18 @@ use Rattle.ti_tool.specs.declared.fault.ToolFault.TheVariants as fault
 use Rattle.ti_listing.specs.Differences.{AreDifferences, DifferenceValue}
 use Rattle.ti_listing.specs.DifferingLines.{differing_lines}
 use Rattle.ti_listing.specs.DifferingObjects.{differing_text}
+use Rattle.ti_tool.specs.Advice.{refusal_advice}
 use Rattle.ti_tool.specs.FaultLines.{fault_line}
 use Rattle.ti_tool.specs.FileRuns.{Contents, Ends, IsRefusedMemory, IsSupplied, IsUnread, Supply, Unread}
 use Rattle.ti_tool.specs.Files.{file_line}
 use Rattle.ti_tool.specs.Streams.{KnownFiles, Stream, Streams, file_name}
 
 -- contents that are no entry lead to the line on that, with the name of the file before it
-abbrev pub IsRefusedFile : List ℕ → List ℕ → List ℕ → List ℕ → ℕ → Type 0
-IsRefusedFile name contents out line status =
+abbrev pub IsRefusedFile : Bool → List ℕ → List ℕ → List ℕ → List ℕ → ℕ → Type 0
+IsRefusedFile has_advice name contents out line status =
     (refused : Refused) × (refusal contents ≡ Some refused) × (out ≡ [])
-    × (line ≡ file_line name (fault_line (fault.Entry refused))) × (status ≡ 3)
+    × (line ≡ file_line name (fault_line (fault.Entry refused) ++ refusal_advice has_advice contents refused.fault))
+    × (status ≡ 3)
 
 -- 1 if something is told
 abbrev pub status_of : List DifferenceValue → ℕ
@@ -40,20 +42,20 @@ AreCompared by form v w out line status =
     × (out ≡ comparison_text form told) × (line ≡ []) × (status ≡ status_of told)
 
 -- contents that are two entries lead to that; else the first file that is none leads to its fault
-abbrev pub IsCompared : Likeness → Comparison → List ℕ → List ℕ → List ℕ → List ℕ → List ℕ → List ℕ → ℕ → Type 0
-IsCompared by form file other contents of_other out line status =
+abbrev pub IsCompared : Bool → Likeness → Comparison → List ℕ → List ℕ → List ℕ → List ℕ → List ℕ → List ℕ → ℕ → Type 0
+IsCompared has_advice by form file other contents of_other out line status =
     ((v : EntryValue) × (w : EntryValue) × Spells contents v × Spells of_other w
     × AreCompared by form v w out line status)
-    ⊎ (IsRefusedFile file contents out line status
-    ⊎ (((v : EntryValue) × Spells contents v) × IsRefusedFile other of_other out line status))
+    ⊎ (IsRefusedFile has_advice file contents out line status
+    ⊎ (((v : EntryValue) × Spells contents v) × IsRefusedFile has_advice other of_other out line status))
 
 -- the files are read in their order; the first that can't be read leads to the line on that
-abbrev pub IsComparison : Likeness → Comparison → List ℕ → List ℕ → Supply → Supply → List ℕ → List ℕ → ℕ → Type 0
-IsComparison by form file other (Contents one) (Contents two) out line status =
-    IsCompared by form file other one two out line status
-IsComparison by form file other (Contents one) Unread out line status = IsUnread other out line status
-IsComparison by form file other Unread two out line status = IsUnread file out line status
-IsComparison by form file other _ _ out line status = IsRefusedMemory out line status
+abbrev pub IsComparison : Bool → Likeness → Comparison → List ℕ → List ℕ → Supply → Supply → List ℕ → List ℕ → ℕ → Type 0
+IsComparison has_advice by form file other (Contents one) (Contents two) out line status =
+    IsCompared has_advice by form file other one two out line status
+IsComparison has_advice by form file other (Contents one) Unread out line status = IsUnread other out line status
+IsComparison has_advice by form file other Unread two out line status = IsUnread file out line status
+IsComparison has_advice by form file other _ _ out line status = IsRefusedMemory out line status
 
 -- one file was read, and then the other
 abbrev pub AreSupplied : KnownFiles → Pair → Stream → Stream → Supply → Supply → Type 0
@@ -62,7 +64,7 @@ AreSupplied known d left0 left1 one two =
     × IsSupplied known (file_name d.other.now false) between left1 two
 
 -- what they led to is written, or a first part of it
-abbrev pub RanDifference : KnownFiles → Pair → Type 0 → Streams → Streams → ℕ → Type 0
-RanDifference known d unwritten before after status =
+abbrev pub RanDifference : KnownFiles → Bool → Pair → Type 0 → Streams → Streams → ℕ → Type 0
+RanDifference known has_advice d unwritten before after status =
     (one : Supply) × (two : Supply) × AreSupplied known d before.left after.left one two
-    × Ends (IsComparison d.likeness d.form d.file.now d.other.now one two) unwritten before after status
+    × Ends (IsComparison has_advice d.likeness d.form d.file.now d.other.now one two) unwritten before after status

@@ -11,6 +11,7 @@ use Rattle.ti_names.specs.declared.name_table.NameTable.TheVariants as tables
 use Rattle.ti_words.specs.declared.Kind.TheVariants as kinds
 use Rattle.ti_words.specs.Spelling.{Spells}
 use Rattle.ti_words.specs.Value.{EntryValue}
+use Rattle.ti_tool.specs.Advice.{IsAdvised}
 use Rattle.ti_tool.specs.Near.{AreNearest}
 use Rattle.ti_tool.specs.declared.fault.ToolFault.{ToolFault}
 use Rattle.ti_tool.specs.declared.fault.ToolFault.TheVariants as fault
@@ -128,11 +129,12 @@ AreTold (Entry (of_entry.Get g)) input fault.NoSuchName near = AreToldFor input 
 AreTold (Entry (of_entry.Trace t)) input fault.NoSuchName near = AreToldFor input t.name.now near
 AreTold action input e near = near ≡ []
 
--- the line on an answer about what was read, none if it has no fault
-abbrev pub IsAnswerLine : {V : Type 0} → Action → List ℕ → Result V ToolFault → List ℕ → Type 0
-IsAnswerLine action input (Ok v) line = line ≡ []
-IsAnswerLine action input (Err e) line =
-    (near : List (List ℕ)) × AreTold action input e near × (line ≡ action_line action near e)
+-- the line on an answer about what was read, and after it the advice, if it is wanted; none if it has no fault
+abbrev pub IsAnswerLine : {V : Type 0} → Option (List ℕ) → Action → List ℕ → Result V ToolFault → List ℕ → Type 0
+IsAnswerLine known action input (Ok v) line = line ≡ []
+IsAnswerLine known action input (Err e) line =
+    (near : List (List ℕ)) × AreTold action input e near
+    × ((advice : List ℕ) × IsAdvised known action input e advice × (line ≡ action_line action near e ++ advice))
 
 -- a text was written whole, or its first bytes, if the writer failed after them
 abbrev pub Told : List ℕ → Option (List ℕ) → Option (List ℕ) → Type 0

@@ -1,6 +1,7 @@
 -- What a run does with standard input, and with files that were named, one after another.
 use Rattle.std.specs.Prelude.{◌≡◌, ◌<◌, ◌⊎◌, ◌||◌, ◌&&◌, ◌==◌, ℕ, max, Bool, not, true, false, List, [], ◌∷◌, ◌++◌, Option, Some, None, IfSome, Result, Ok, Err, codes, if◌then◌else◌, length, map, nat_le, nat_lt, take, unwrap_or}
 use Rattle.std.specs.List.{flat_map, list_any}
+use Rattle.ti_base.specs.Letters.{letter}
 use Rattle.std.specs.Io.KnownBytes.{Appends, Consumes, IsAtEnd}
 use Rattle.ti_line.specs.CommandLine.{is_minus}
 use Rattle.ti_line.specs.declared.options.Document.TheVariants as documents
@@ -10,6 +11,8 @@ use Rattle.ti_line.specs.declared.request.EntryAction.{EntryAction}
 use Rattle.ti_line.specs.declared.request.EntryAction.TheVariants as of_entry
 use Rattle.ti_tool.specs.declared.fault.ToolFault.{ToolFault}
 use Rattle.ti_tool.specs.declared.fault.ToolFault.TheVariants as fault
+use Rattle.ti_tool.specs.declared.extras.Extras.{Extras}
+use Rattle.ti_tool.specs.Advice.{hints}
 use Rattle.ti_tool.specs.Calls.{FailsAsDue, IsEnough}
 use Rattle.ti_tool.specs.FaultLines.{IsAnswerLine, Told, fault_line}
 use Rattle.ti_tool.specs.Files.{IsDueOfFile, before_findings, file_line}
@@ -23,19 +26,20 @@ use Rattle.ti_tool.specs.Streams.{AreContents, AreFound, FileName, Gives, IsOne,
 
 -- an answer to a request of contents has its output and no line, or no output and the line on its fault, after what it is
 -- called; out of memory only if what is due needs memory
-abbrev pub AnswerLeadsTo : (Bool → Result (List ℕ) ToolFault → Type 0) → Action → (List ℕ → List ℕ) → List ℕ
-    → Result Bool ToolFault → List ℕ → List ℕ → Type 0
-AnswerLeadsTo due action called contents (Ok passed) out line = Finds action passed × due passed (Ok out) × (line ≡ [])
-AnswerLeadsTo due action called contents (Err why) out line =
+abbrev pub AnswerLeadsTo : (Bool → Result (List ℕ) ToolFault → Type 0) → Option (List ℕ) → Action → (List ℕ → List ℕ)
+    → List ℕ → Result Bool ToolFault → List ℕ → List ℕ → Type 0
+AnswerLeadsTo due known action called contents (Ok passed) out line =
+    Finds action passed × due passed (Ok out) × (line ≡ [])
+AnswerLeadsTo due known action called contents (Err why) out line =
     FailsAsDue (due true) why × (out ≡ [])
-    × ((told : List ℕ) × IsAnswerLine {V = Bool} action contents (Err why) told × (line ≡ called told))
+    × ((told : List ℕ) × IsAnswerLine {V = Bool} known action contents (Err why) told × (line ≡ called told))
 
 -- contents lead to an output, a line and a status
-abbrev pub LeadsTo : (Bool → Result (List ℕ) ToolFault → Type 0) → Action → (List ℕ → List ℕ) → List ℕ
-    → List ℕ → List ℕ → ℕ → Type 0
-LeadsTo due action called contents out line status =
+abbrev pub LeadsTo : (Bool → Result (List ℕ) ToolFault → Type 0) → Option (List ℕ) → Action → (List ℕ → List ℕ)
+    → List ℕ → List ℕ → List ℕ → ℕ → Type 0
+LeadsTo due known action called contents out line status =
     (answer : Result Bool ToolFault) × (status ≡ status_for answer)
-    × AnswerLeadsTo due action called contents answer out line
+    × AnswerLeadsTo due known action called contents answer out line
 
 -- ---- which files
 
@@ -75,6 +79,7 @@ pub record Job : Type 0 where
   pub e : EntryAction
   pub are_several : Bool
   pub summary : Option LintOptions
+  pub has_advice : Bool
 
 -- what there is of a file: its contents; or the system gives none; or memory was refused
 pub data Supply : Type 0 where
@@ -101,12 +106,37 @@ IsDueOfJob job name contents passed (Err why) =
 
 abbrev pub IsOutcomeOfContents : Job → List ℕ → List ℕ → List ℕ → List ℕ → ℕ → Type 0
 IsOutcomeOfContents job name contents out line status =
-    LeadsTo (IsDueOfJob job name contents) (Entry job.e) (file_line name) contents out line status
+    LeadsTo (IsDueOfJob job name contents) (hints job.has_advice contents) (Entry job.e) (file_line name) contents
+    out line status
+
+-- a name that a terminal may have: letters, digits and some others
+abbrev pub is_within : List ℕ → List ℕ → ℕ → Bool
+is_within first last b = nat_le (letter first) b && nat_le b (letter last)
+
+abbrev pub is_name_byte : ℕ → Bool
+is_name_byte b =
+    is_within (codes "a") (codes "z") b || (is_within (codes "A") (codes "Z") b || (is_within (codes "0") (codes "9") b
+    || (b == letter (codes "+") || (b == letter (codes "-") || (b == letter (codes ".") || b == letter (codes "_"))))))
+
+abbrev pub is_no_name_byte : ℕ → Bool
+is_no_name_byte b = not (is_name_byte b)
+
+abbrev pub may_be_terminal : List ℕ → Bool
+may_be_terminal name = not (list_any is_no_name_byte name)
+
+-- how to find the file of a terminal
+abbrev pub path_words : List ℕ → List ℕ
+path_words name = codes "; ti takes files, such as \"$(ti-path " ++ name ++ codes ")\""
+
+-- the line says so if there is no file of such a name
+abbrev pub path_hint : Bool → List ℕ → List ℕ
+path_hint is_missing name = if is_missing && may_be_terminal name then path_words name else []
 
 -- a file that can't be read leads to a line with its name and the system's reason, and to status 5
 abbrev pub IsUnread : List ℕ → List ℕ → List ℕ → ℕ → Type 0
 IsUnread name out line status =
-    (reason : List ℕ) × (out ≡ []) × (line ≡ file_line name reason) × (status ≡ 5)
+    (reason : List ℕ) × (is_missing : Bool) × (out ≡ [])
+    × (line ≡ file_line name (reason ++ path_hint is_missing name ++ codes "\n")) × (status ≡ 5)
 
 -- refused memory leads to its line and to status 6
 abbrev pub IsRefusedMemory : List ℕ → List ℕ → ℕ → Type 0
@@ -148,19 +178,19 @@ IsInput action left0 left1 (Contents bytes) = Consumes left0 left1 bytes × (IsE
 IsInput action left0 left1 Unread = (bytes : List ℕ) × Consumes left0 left1 bytes
 IsInput action left0 left1 NoMemory = ⊥
 
--- if no word names it, its lines on faults have no name
-abbrev pub IsOutcomeOfInput : Action → Supply → List ℕ → List ℕ → ℕ → Type 0
-IsOutcomeOfInput action (Contents bytes) out line status =
-    LeadsTo (λ passed. IsAnswer action passed bytes) action (λ told. told) bytes out line status
-IsOutcomeOfInput action _ out line status =
+-- if no word names it, its lines on faults have no name, and the front of what is refused is not known
+abbrev pub IsOutcomeOfInput : Bool → Action → Supply → List ℕ → List ℕ → ℕ → Type 0
+IsOutcomeOfInput has_advice action (Contents bytes) out line status =
+    LeadsTo (λ passed. IsAnswer action passed bytes) (hints has_advice []) action (λ told. told) bytes out line status
+IsOutcomeOfInput has_advice action _ out line status =
     (out ≡ []) × (line ≡ fault_line fault.Read) × (status ≡ 5)
 
 -- a request of it was carried out, and what was looked at is told if that is wanted
-abbrev pub RanInput : Option LintOptions → Action → Type 0 → Streams → Streams → ℕ → Type 0
-RanInput summary action unwritten before after status =
+abbrev pub RanInput : Extras → Action → Type 0 → Streams → Streams → ℕ → Type 0
+RanInput extras action unwritten before after status =
     (supply : Supply) × (between : Streams) × IsInput action before.left between.left supply
-    × Ends (IsOutcomeOfInput action supply) unwritten before between status
-    × IsSummarized summary (looked supply status) between after
+    × Ends (IsOutcomeOfInput extras.has_advice action supply) unwritten before between status
+    × IsSummarized extras.summary (looked supply status) between after
 
 -- ---- one after another
 
@@ -234,10 +264,11 @@ EndsWithNone (b ∷ bs) code before after status =
     × (status ≡ max code 5)
 
 -- what is done with the files that words name, unless memory is refused for their names
-abbrev pub RanFiles : KnownFiles → Option LintOptions → EntryAction → List (List ℕ) → Streams → Streams → ℕ → Type 0
-RanFiles known summary e words before after status =
+abbrev pub RanFiles : KnownFiles → Extras → EntryAction → List (List ℕ) → Streams → Streams → ℕ → Type 0
+RanFiles known extras e words before after status =
     ((founds : List Lookup) × AreLookups known e words founds × (between : Streams) × (code : ℕ)
-    × RanFound known (record { e = e; are_several = are_several words founds; summary = summary })
+    × RanFound known
+    (record { e = e; are_several = are_several words founds; summary = extras.summary; has_advice = extras.has_advice })
     (flat_map (λ l. l.files) founds) before between code
     × EndsWithNone (lines_on_none e words founds) code between after status)
     ⊎ (Delivered before.held after.held before.told after.told (Some status) [] (fault_line fault.Memory) 6

@@ -43,10 +43,10 @@ AreOne out outs line lines status code = (out ≡ outs) × (line ≡ lines) × (
 
 -- the contents of two files lead to one result of `diff`
 abbrev pub DiffHasOneResult : Type 0
-DiffHasOneResult = (by : Likeness) (form : Comparison) (file other one two : List ℕ)
+DiffHasOneResult = (has_advice : Bool) (by : Likeness) (form : Comparison) (file other one two : List ℕ)
     (out outs line lines : List ℕ) (status code : ℕ)
-    → IsCompared by form file other one two out line status
-    → IsCompared by form file other one two outs lines code
+    → IsCompared has_advice by form file other one two out line status
+    → IsCompared has_advice by form file other one two outs lines code
     → AreOne out outs line lines status code
 
 -- the line on a name that nothing has, without the names that are near
@@ -68,9 +68,9 @@ FileHasOneResult = (job : Job) (name contents out outs line lines : List ℕ) (s
 
 -- so does what is read of standard input
 abbrev pub InputHasOneResult : Type 0
-InputHasOneResult = (action : Action) (supply : Supply) (out outs line lines : List ℕ) (status code : ℕ)
+InputHasOneResult = (has_advice : Bool) (action : Action) (supply : Supply) (out outs line lines : List ℕ) (status code : ℕ)
     → status ≢ 6 → code ≢ 6
-    → IsOutcomeOfInput action supply out line status → IsOutcomeOfInput action supply outs lines code
+    → IsOutcomeOfInput has_advice action supply out line status → IsOutcomeOfInput has_advice action supply outs lines code
     → (out ≡ outs) × (status ≡ code) × AreOneLine action (λ told. told) line lines
 
 -- memory was not refused

@@ -9,6 +9,8 @@ pub mod Results
 pub mod Printable
 pub mod Calls
 pub mod Near
+pub mod Sentences
+pub mod Advice
 pub mod FaultLines
 pub mod Files
 pub mod Streams

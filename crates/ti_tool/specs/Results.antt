@@ -81,7 +81,7 @@ IsListed options v answer = answer ≡ Ok (entry_lines options v)
 
 -- by the common names, with names as they stand in the entry, and texts in hex
 abbrev pub IsShown : List ℕ → Result (List ℕ) ToolFault → Type 0
-IsShown = IsDueFrom (IsListed (list_options false false false))
+IsShown = IsDueFrom (IsListed (list_options false false))
 
 -- the lines of `check`, which are those of sound texts alone or not
 abbrev pub IsJudgement : Naming → Bool → EntryValue → Result (List ℕ) ToolFault → Type 0

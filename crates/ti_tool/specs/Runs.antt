@@ -1,5 +1,5 @@
 -- What a run of the program does.
-use Rattle.std.specs.Prelude.{◌≡◌, ◌⊎◌, ◌||◌, ℕ, false, List, [], ◌∷◌, Option, None, Err}
+use Rattle.std.specs.Prelude.{◌≡◌, ◌⊎◌, ◌||◌, ℕ, Bool, true, false, List, [], ◌∷◌, Option, None, Err}
 use Rattle.ti_line.specs.CommandLine.{Command, Reads, Row, files_of, has_summary}
 use Rattle.ti_line.specs.Message.{message_text}
 use Rattle.ti_line.specs.Requests.{Asks, Explains, HasText, IsReadAs}
@@ -7,7 +7,8 @@ use Rattle.ti_line.specs.declared.destination.Destination.TheVariants as destina
 use Rattle.ti_line.specs.declared.no_request.NoRequest.{NoRequest}
 use Rattle.ti_line.specs.declared.no_request.NoRequest.TheVariants as no_request
 use Rattle.ti_line.specs.declared.request.Action.{Action}
-use Rattle.ti_line.specs.declared.request.Action.TheVariants.{Difference, Entry}
+use Rattle.ti_line.specs.declared.request.Action.TheVariants.{Difference, Entry, Source}
+use Rattle.ti_tool.specs.declared.extras.Extras.{Extras}
 use Rattle.ti_tool.specs.declared.fault.ToolFault.TheVariants as fault
 use Rattle.ti_tool.specs.declared.terminals.Terminals.{Terminals}
 use Rattle.ti_tool.specs.FaultLines.{fault_line, line_fault_line}
@@ -30,19 +31,29 @@ MayHaveWritten status = (status ≡ 0) ⊎ ((status ≡ 1) ⊎ (status ≡ 5))
 
 -- a request was carried out, of an entry for the files that are named, if there are any, or else of standard input; or two
 -- were compared
-abbrev pub RanRequest : KnownFiles → Option LintOptions → Action → List (List ℕ) → Type 0 → Streams → Streams → ℕ → Type 0
-RanRequest known summary (Entry e) (file ∷ files) unwritten before after status =
-    RanFiles known summary e (file ∷ files) before after status
-RanRequest known summary (Difference d) files unwritten before after status =
-    RanDifference known d unwritten before after status
-RanRequest known summary action files unwritten before after status =
-    RanInput summary action unwritten before after status
+abbrev pub RanRequest : KnownFiles → Extras → Action → List (List ℕ) → Type 0 → Streams → Streams → ℕ → Type 0
+RanRequest known extras (Entry e) (file ∷ files) unwritten before after status =
+    RanFiles known extras e (file ∷ files) before after status
+RanRequest known extras (Difference d) files unwritten before after status =
+    RanDifference known extras.has_advice d unwritten before after status
+RanRequest known extras action files unwritten before after status =
+    RanInput extras action unwritten before after status
 
 -- a summary is wanted of `lint` if faults are told at a terminal, or if the words have `--summary`
 abbrev pub summary_for : Terminals → List (List ℕ) → Action → Option LintOptions
 summary_for at words = summary_of (at.errors || has_summary words)
 
--- no request that the words make has one
+-- advice is written at a terminal, and on a notation that was typed
+abbrev pub is_source : Action → Bool
+is_source (Source c) = true
+is_source action = false
+
+-- what is wanted of a request on standard error
+abbrev pub extras_for : Terminals → List (List ℕ) → Action → Extras
+extras_for at words action =
+    record { summary = summary_for at words action; has_advice = at.errors || is_source action }
+
+-- no request that the words make has a summary
 abbrev pub HasNoSummary : Terminals → List (List ℕ) → Type 0
 HasNoSummary at words =
     (command : Command) (rows : List Row) (action : Action) → Reads words command rows
@@ -64,7 +75,7 @@ abbrev pub DidLine : Terminals → KnownFiles → List (List ℕ) → Command �
     → ℕ → Type 0
 DidLine at known words command rows unread unwritten before after status =
     ((action : Action) × Asks at.output command rows action
-    × RanRequest known (summary_for at words action) action (files_of words) unwritten before after status)
+    × RanRequest known (extras_for at words action) action (files_of words) unwritten before after status)
     ⊎ ((why : NoRequest) × IsReadAs at.output words command rows (Err why)
     × unread × EndsWords why unwritten before after status)
 

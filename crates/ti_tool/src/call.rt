@@ -2,13 +2,12 @@
 //!
 //! Nothing is written before the whole result is there: after a fault other than `Write` the writer is as it was.
 
-ghost use Rattle.std.specs.Prelude.{◌⊎◌, ◌≡◌, ℕ, List, IfErr, IfOk, MatchResult, true};
+ghost use Rattle.std.specs.Prelude.{◌⊎◌, ◌≡◌, ◌≤◌, [], IfErr, IfOk, MatchResult, length, true};
 ghost use Rattle.ti_line.specs.declared.request.Action.TheVariants.{Capability, Entry, Source};
 ghost use Rattle.ti_tool.specs.Calls.{DidCheck, IsEnough, IsFailedWrite};
 ghost use Rattle.ti_tool.specs.FileRuns.{IsInput, Supply};
 ghost use Rattle.ti_tool.specs.Results.{Finds, IsAnswer};
-ghost use Rattle.ti_tool.specs.inner.Answered.{HasFault, HasOutput};
-ghost use Rattle.ti_entry.specs.Reading.{new_reading};
+ghost use Rattle.ti_tool.specs.inner.Answered.{HasFault, HasOutput, held_of};
 ghost use Rattle.ti_entry.specs.Reading.{new_reading};
 
 use crate::command::{Answer, answer_of_capability, answer_of_entry, answer_of_source};
@@ -22,28 +21,39 @@ use ti_entry::{EntryReader, read_from};
 use ti_line::{Action, CapabilityAction, EntryAction};
 use ti_report::Trials;
 
+/// What a line on a fault may show of an input: a capability, or its notation.
+pub type InputText = ArrayVec<u8, MOST_CHARACTERS>;
+
+/// Keeps an input.
+fn keep(text: &mut InputText, input: &[u8])
+    requires none { text.old.items ≡ [] }
+    requires fits { length input.now ≤ MOST_CHARACTERS }
+    ensures { text.new.items ≡ input.now }
+{
+    let _ = text.try_extend_from_slice(input);
+}
+
 /// The output of a request on what the reader gives as one capability, each byte of it as it stands. At most 32768 bytes of the
 /// input are kept, which is one more than a capability may have.
 fn answer_of_bytes<A: Allocator + Copy, R: Read>(
     alloc: A,
     action: &CapabilityAction<'_>,
+    text: &mut InputText,
     reader: &mut R,
 ) -> Result<Answer<A>, ToolFault>
+    requires { text.old.items ≡ [] }
     ensures finds { IfOk result (λ a. a.passed ≡ true) }
-    ensures answered { (kept : List ℕ) → (supply : Supply)
+    ensures answered { (supply : Supply)
         × IsInput (Capability action.now) (R.remaining reader.old) (R.remaining reader.new) supply
         × MatchResult result
-        (λ a. HasOutput (Capability action.now) kept supply a.passed a.bytes.items)
-        (HasFault (Capability action.now) kept supply) }
+        (λ a. HasOutput (Capability action.now) text.new.items supply a.passed a.bytes.items)
+        (HasFault (Capability action.now) text.new.items supply) }
 {
     let mut input: ArrayVec<u8, MOST_BYTES> = ArrayVec::new();
     read_up_to(&mut input, reader)?;
-    let bytes = answer_of_capability(
-        alloc,
-        action.result,
-        &action.parameters.values,
-        input.as_slice(),
-    )?;
+    let input = input.as_slice();
+    keep(text, input);
+    let bytes = answer_of_capability(alloc, action.result, &action.parameters.values, input)?;
     Ok(Answer {
         bytes,
         passed: true,
@@ -55,17 +65,20 @@ fn answer_of_bytes<A: Allocator + Copy, R: Read>(
 fn answer_of_notation<A: Allocator + Copy, R: Read>(
     alloc: A,
     action: &CapabilityAction<'_>,
+    text: &mut InputText,
     reader: &mut R,
 ) -> Result<Answer<A>, ToolFault>
+    requires { text.old.items ≡ [] }
     ensures finds { IfOk result (λ a. a.passed ≡ true) }
-    ensures answered { (kept : List ℕ) → (supply : Supply)
+    ensures answered { (supply : Supply)
         × IsInput (Source action.now) (R.remaining reader.old) (R.remaining reader.new) supply
         × MatchResult result
-        (λ a. HasOutput (Source action.now) kept supply a.passed a.bytes.items)
-        (HasFault (Source action.now) kept supply) }
+        (λ a. HasOutput (Source action.now) text.new.items supply a.passed a.bytes.items)
+        (HasFault (Source action.now) text.new.items supply) }
 {
-    let mut input: ArrayVec<u8, MOST_CHARACTERS> = ArrayVec::new();
+    let mut input: InputText = ArrayVec::new();
     read_up_to(&mut input, reader)?;
+    keep(text, input.as_slice());
     let bytes = answer_of_source(
         alloc,
         action.result,
@@ -100,24 +113,26 @@ fn answer_of_kept<A: Allocator + Copy, R: Read>(
     answer_of_entry(alloc, &mut trials, action, b"", bytes, &entry)
 }
 
-/// The output of a request on what the reader gives. The bytes of an entry are kept: a line on a fault may have its names.
+/// The output of a request on what the reader gives, which is kept: a line on a fault may show some of it.
 pub(crate) fn answer_of_input<A: Allocator + Copy, R: Read>(
     alloc: A,
     action: &Action<'_>,
     kept: &mut EntryReader,
+    text: &mut InputText,
     reader: &mut R,
 ) -> Result<Answer<A>, ToolFault>
-    requires { kept.old ≡ new_reading }
+    requires kept { kept.old ≡ new_reading }
+    requires text { text.old.items ≡ [] }
     ensures finds { IfOk result (λ a. Finds action.now a.passed) }
     ensures answered { (supply : Supply)
         × IsInput action.now (R.remaining reader.old) (R.remaining reader.new) supply
         × MatchResult result
-        (λ a. HasOutput action.now kept.new.kept supply a.passed a.bytes.items)
-        (HasFault action.now kept.new.kept supply) }
+        (λ a. HasOutput action.now (held_of action.now kept.new.kept text.new.items) supply a.passed a.bytes.items)
+        (HasFault action.now (held_of action.now kept.new.kept text.new.items) supply) }
 {
     match action {
-        Action::Capability(action) => answer_of_bytes(alloc, action, reader),
-        Action::Source(action) => answer_of_notation(alloc, action, reader),
+        Action::Capability(action) => answer_of_bytes(alloc, action, text, reader),
+        Action::Source(action) => answer_of_notation(alloc, action, text, reader),
         Action::Entry(action) => answer_of_kept(alloc, action, kept, reader),
         Action::Difference(_) => Err(ToolFault::Read),
     }
@@ -149,8 +164,8 @@ pub fn carry_out<A: Allocator + Copy, R: Read, W: Write>(
     // After a fault other than `Write` the writer is as it was.
     ensures unwritten { IfErr result (λ e. IsFailedWrite e ⊎ (writer.new ≡ writer.old)) }
 {
-    let mut kept = EntryReader::new();
-    let answer = answer_of_input(alloc, action, &mut kept, reader)?;
+    let (mut kept, mut text) = (EntryReader::new(), ArrayVec::new());
+    let answer = answer_of_input(alloc, action, &mut kept, &mut text, reader)?;
     write_result(writer, answer.bytes.as_slice())?;
     Ok(answer.passed)
 }

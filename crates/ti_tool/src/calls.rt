@@ -65,7 +65,7 @@ pub fn show<A: Allocator + Copy, R: Read, W: Write>(
     // After a fault other than `Write` the writer is as it was.
     ensures unwritten { IfErr result (λ e. IsFailedWrite e ⊎ (writer.new ≡ writer.old)) }
 {
-    let action = Action::Entry(EntryAction::Show(list_options(false, false, false)));
+    let action = Action::Entry(EntryAction::Show(list_options(false, false)));
     without_value(carry_out(alloc, &action, reader, writer))
 }
 

@@ -11,6 +11,7 @@ ghost use Rattle.ti_tool.specs.Runs.{MayHaveWritten};
 ghost use Rattle.ti_tool.specs.Streams.{streams};
 ghost use Rattle.ti_tool.specs.inner.Files.{EndsFile};
 
+use crate::advice::{advised, refusal_advice};
 use crate::command::document::as_line;
 use crate::fault::ToolFault;
 use crate::fault_line::fault_line;
@@ -25,17 +26,19 @@ use ti_listing::{Difference, difference_of, differing_json, differing_lines};
 /// What contents lead to that are no entry.
 fn refusal_outcome<A: Allocator + Copy>(
     alloc: A,
+    has_advice: bool,
     name: &str,
     contents: &[u8],
     refused: Refused,
 ) -> Result<Outcome<A>, AllocError>
     requires { refusal contents.now ≡ Some refused }
     ensures ends { IfOk result (λ o. EndsFile o.status o.bytes.items o.line.items) }
-    ensures led { IfOk result (λ o. IsRefusedFile name.now contents.now
+    ensures led { IfOk result (λ o. IsRefusedFile has_advice name.now contents.now
         o.bytes.items o.line.items o.status) }
 {
     let line = fault_line(&ToolFault::Entry(refused));
-    fault_outcome(alloc, name, line.as_slice(), 3)
+    let advice = refusal_advice(has_advice, contents, refused.fault);
+    fault_outcome(alloc, name, advised(&line, &advice).as_slice(), 3)
 }
 
 /// What two entries do not have alike, as it is requested.
@@ -79,21 +82,22 @@ fn difference_outcome<'a, A: Allocator + Copy>(
 /// What the contents of two files lead to.
 fn outcome_of_both<A: Allocator + Copy>(
     alloc: A,
+    has_advice: bool,
     pair: &Pair<'_>,
     contents: &[u8],
     of_other: &[u8],
 ) -> Result<Outcome<A>, AllocError>
     ensures ends { IfOk result (λ o. EndsFile o.status o.bytes.items o.line.items) }
-    ensures led { IfOk result (λ o. IsCompared pair.now.likeness pair.now.form pair.now.file.now pair.now.other.now
+    ensures led { IfOk result (λ o. IsCompared has_advice pair.now.likeness pair.now.form pair.now.file.now pair.now.other.now
         contents.now of_other.now o.bytes.items o.line.items o.status) }
 {
     let one = match read(contents) {
         Ok(entry) => entry,
-        Err(refused) => return refusal_outcome(alloc, pair.file, contents, refused),
+        Err(refused) => return refusal_outcome(alloc, has_advice, pair.file, contents, refused),
     };
     let other = match read(of_other) {
         Ok(entry) => entry,
-        Err(refused) => return refusal_outcome(alloc, pair.other, of_other, refused),
+        Err(refused) => return refusal_outcome(alloc, has_advice, pair.other, of_other, refused),
     };
     difference_outcome(alloc, pair.likeness, pair.form, &one, &other)
 }
@@ -102,13 +106,14 @@ fn outcome_of_both<A: Allocator + Copy>(
 fn outcome_of_pair<S: Store, A: Allocator + Copy, R: Read>(
     store: &S,
     alloc: A,
+    has_advice: bool,
     pair: &Pair<'_>,
     input: &mut R,
 ) -> Result<Outcome<A>, AllocError>
     ensures ends { IfOk result (λ o. EndsFile o.status o.bytes.items o.line.items) }
     ensures led { IfOk result (λ o. (one : Supply) × (two : Supply)
         × AreSupplied (S.known store.now) pair.now (R.remaining input.old) (R.remaining input.new) one two
-        × IsComparison pair.now.likeness pair.now.form pair.now.file.now pair.now.other.now one two
+        × IsComparison has_advice pair.now.likeness pair.now.form pair.now.file.now pair.now.other.now one two
         o.bytes.items o.line.items o.status) }
 {
     let contents = match contents_of(store, alloc, pair.file, input) {
@@ -119,13 +124,20 @@ fn outcome_of_pair<S: Store, A: Allocator + Copy, R: Read>(
         Ok(contents) => contents,
         Err(error) => return refused_outcome(alloc, pair.other, &error),
     };
-    outcome_of_both(alloc, pair, contents.as_slice(), of_other.as_slice())
+    outcome_of_both(
+        alloc,
+        has_advice,
+        pair,
+        contents.as_slice(),
+        of_other.as_slice(),
+    )
 }
 
 /// Compares two files, and writes what they do not have alike.
 pub fn run_pair<S: Store, A: Allocator + Copy, R: Read, W: Write, E: Write>(
     store: &S,
     alloc: A,
+    has_advice: bool,
     pair: &Pair<'_>,
     input: &mut R,
     output: &mut W,
@@ -133,11 +145,11 @@ pub fn run_pair<S: Store, A: Allocator + Copy, R: Read, W: Write, E: Write>(
 ) -> u8
     ensures known { result ≢ 2 }
     ensures silent { result ≤ 1 → errors.new ≡ errors.old }
-    ensures ran { RanDifference (S.known store.now) pair.now (output.new ≡ output.old)
+    ensures ran { RanDifference (S.known store.now) has_advice pair.now (output.new ≡ output.old)
         (streams (R.remaining input.old) (W.contents output.old) (E.contents errors.old))
         (streams (R.remaining input.new) (W.contents output.new) (E.contents errors.new)) result }
     ensures unwritten { MayHaveWritten result ⊎ (output.new ≡ output.old) }
 {
-    let outcome = outcome_of_pair(store, alloc, pair, input);
+    let outcome = outcome_of_pair(store, alloc, has_advice, pair, input);
     deliver_outcome(outcome, output, errors).unwrap_or(5)
 }

@@ -15,7 +15,7 @@ use ti_line::{EntryAction, LineFault, WordFault};
 use ti_names::NameTable;
 
 /// The most bytes of a line.
-const MOST_BYTES: usize = 256;
+pub const MOST_BYTES: usize = 256;
 
 /// The most bytes of the words of a line. Its number, ` at ` and a newline come beside them.
 const MOST_WORD_BYTES: usize = 30;

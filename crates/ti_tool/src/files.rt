@@ -16,10 +16,12 @@ ghost use Rattle.ti_tool.specs.declared.fault.ToolFault.TheVariants as fault;
 ghost use Rattle.ti_tool.specs.inner.Files.{EndsFile, IsResultOrLine, job_of};
 ghost use Rattle.ti_tool.specs.inner.Tallies.{IsLooked};
 
+use crate::extras::Extras;
 use crate::fault::ToolFault;
 use crate::fault_line::fault_line;
 use crate::file_answer::{Named, answer_of_file, file_line};
 use crate::program::entry_line;
+use crate::reason::reason_line;
 use crate::result::write_result;
 use crate::status::status;
 use crate::store::{Files, FoundFile, Store, one_file, read_contents};
@@ -41,6 +43,8 @@ pub struct Errand<'a> {
     pub are_several: bool,
     /// The options of `lint`, if a summary is wanted of it.
     pub summary: Option<LintOptions>,
+    /// Whether a line on a fault is followed by advice.
+    pub has_advice: bool,
 }
 
 /// What a file leads to: a result or a line on its fault, and the status; and how much was looked at in it, if that is wanted.
@@ -86,8 +90,8 @@ pub fn refused_outcome<A: Allocator + Copy>(
     if error.kind() == ErrorKind::OutOfMemory {
         return Err(AllocError);
     }
-    let reason = format!(in alloc; "{error}\n")?;
-    fault_outcome(alloc, name, reason.as_bytes(), 5)
+    let reason = reason_line(alloc, name, error)?;
+    fault_outcome(alloc, name, reason.as_slice(), 5)
 }
 
 /// What the contents of a file lead to.
@@ -107,6 +111,7 @@ fn outcome_of<A: Allocator + Copy>(
         of_entry,
         are_several,
         summary,
+        has_advice,
     } = *errand;
     let file = Named {
         name,
@@ -120,7 +125,7 @@ fn outcome_of<A: Allocator + Copy>(
             tally: look_at(alloc, trials, summary, contents)?,
         }),
         Err(fault) => {
-            let line = entry_line(alloc, of_entry, contents, &fault);
+            let line = entry_line(alloc, has_advice, contents, of_entry, contents, &fault);
             fault_outcome(alloc, name, line.as_slice(), status(&Err(fault)))
         }
     }
@@ -432,7 +437,7 @@ fn report_none<E: Write>(lines: &[u8], status: u8, errors: &mut E) -> u8
 pub fn run_files<S: Store, A: Allocator + Copy, R: Read, W: Write, E: Write>(
     store: &S,
     alloc: A,
-    summary: Option<LintOptions>,
+    extras: Extras,
     of_entry: &EntryAction<'_>,
     words: &[&str],
     input: &mut R,
@@ -440,18 +445,23 @@ pub fn run_files<S: Store, A: Allocator + Copy, R: Read, W: Write, E: Write>(
     errors: &mut E,
 ) -> u8
     ensures known { result ≢ 2 }
-    ensures silent { summary ≡ None → result ≤ 1 → errors.new ≡ errors.old }
-    ensures ran { RanFiles (S.known store.now) summary of_entry.now (texts_of words.now)
+    ensures silent { extras.summary ≡ None → result ≤ 1 → errors.new ≡ errors.old }
+    ensures ran { RanFiles (S.known store.now) extras of_entry.now (texts_of words.now)
         (streams (R.remaining input.old) (W.contents output.old) (E.contents errors.old))
         (streams (R.remaining input.new) (W.contents output.new) (E.contents errors.new)) result }
 {
     match look_all_up(store, alloc, of_entry, words) {
         Ok(sought) => {
             let are_several = sought.are_several;
+            let Extras {
+                summary,
+                has_advice,
+            } = extras;
             let errand = Errand {
                 of_entry,
                 are_several,
                 summary,
+                has_advice,
             };
             let files = sought.files.as_slice();
             let status = run_found(store, alloc, &errand, files, input, output, errors);

@@ -1,11 +1,13 @@
 //! The program `ti` as functions from the bytes read to the bytes written.
 #![tactic(auto)]
 
+mod advice;
 mod call;
 mod calls;
 mod command;
 mod comparison;
 mod expansion;
+mod extras;
 mod fault;
 mod fault_line;
 mod file_answer;
@@ -16,7 +18,9 @@ pub mod laws;
 mod near;
 mod notation;
 mod program;
+mod reason;
 mod result;
+mod sentence;
 mod source;
 mod status;
 mod store;

@@ -1,31 +1,37 @@
 //! The program over its words, a reader and two writers.
 
-ghost use Rattle.std.specs.Prelude.{◌≡◌, ◌≢◌, ◌≤◌, ◌||◌, ◌⊎◌, [], Bool, Err, List, None, map};
+ghost use Rattle.std.specs.Prelude.{◌≡◌, ◌≢◌, ◌≤◌, ◌⊎◌, [], Bool, Err, List, None, map};
 ghost use Rattle.ti_line.specs.CommandLine.{AreRead, Command, Reads, Row, files_of};
 ghost use Rattle.ti_line.specs.Requests.{texts_of};
 ghost use Rattle.ti_line.specs.declared.request.Action.TheVariants.{Entry};
+ghost use Rattle.ti_tool.specs.Advice.{hints};
 ghost use Rattle.ti_tool.specs.FaultLines.{AreTold, AreToldFor, IsAnswerLine};
 ghost use Rattle.ti_tool.specs.FileRuns.{RanInput};
 ghost use Rattle.ti_tool.specs.Runs.{DidLine, DidNoLine, EndsWords, HasNoSummary, MayHaveWritten, RanRequest, no_terminals};
+ghost use Rattle.ti_tool.specs.inner.Answered.{held_of};
 ghost use Rattle.ti_tool.specs.inner.Tallies.{HasContents};
 ghost use Rattle.ti_tool.specs.Streams.{Stream, streams, unknown_files};
 
+use crate::advice::{
+    AdvisedLine, advice_on_capability, advice_on_entry, advice_on_nothing, advice_on_source,
+    advised,
+};
 use crate::call::answer_of_input;
 use crate::comparison::run_pair;
+use crate::extras::{Extras, extras_of};
 use crate::fault::ToolFault;
 use crate::fault_line::{FaultLine, action_line, fault_line, line_fault_line};
 use crate::files::{deliver_last, run_files};
 use crate::near::{NearNames, nearest_names};
 use crate::status::status;
 use crate::store::{NoStore, Store};
-use crate::summary::{report_contents, summary_of};
+use crate::summary::report_contents;
 use crate::terminals::Terminals;
 use arrayvec::ArrayVec;
 use std::alloc::{AllocError, Allocator, Global};
 use std::io::{Read, Write};
 use ti_entry::{EntryReader, read};
 use ti_line::{Action, EntryAction, Get, NoRequest, Request, TraceOf, read_line};
-use ti_lint::LintOptions;
 
 /// The names that are reported in place of a word: the nearest ones, also of the entry that was read. None if memory is refused.
 fn names_for<'n, A: Allocator + Copy>(alloc: A, word: &str, input: &'n [u8]) -> NearNames<'n>
@@ -58,63 +64,75 @@ fn told_names<'n, A: Allocator + Copy>(
     }
 }
 
-/// The line on the fault of a request on an entry, of which these bytes were read.
+/// The line on the fault of a request on an entry, of which these bytes were read, with the advice after it, if it is wanted.
 pub(crate) fn entry_line<A: Allocator + Copy>(
     alloc: A,
+    has_advice: bool,
+    front: &[u8],
     action: &EntryAction<'_>,
     input: &[u8],
     fault: &ToolFault,
-) -> FaultLine
-    ensures { IsAnswerLine {V = Bool} (Entry action.now) input.now (Err fault.now) result.items }
+) -> AdvisedLine
+    ensures { IsAnswerLine {V = Bool} (hints has_advice front.now) (Entry action.now) input.now (Err fault.now) result.items }
 {
     let near = told_names(alloc, action, input, fault);
-    action_line(action, near.as_slice(), fault)
+    let line = action_line(action, near.as_slice(), fault);
+    advised(
+        &line,
+        &advice_on_entry(has_advice, front, action, input, fault),
+    )
 }
 
-/// The line on the fault of a request.
+/// The line on the fault of a request, and the advice. The bytes of an entry are kept, and else the input, which may change.
 fn answer_line<A: Allocator + Copy>(
     alloc: A,
+    has_advice: bool,
     action: &Action<'_>,
-    input: &[u8],
+    kept: &[u8],
+    input: &mut [u8],
     fault: &ToolFault,
-) -> FaultLine
-    ensures { IsAnswerLine {V = Bool} action.now input.now (Err fault.now) result.items }
+) -> AdvisedLine
+    ensures { IsAnswerLine {V = Bool} (hints has_advice []) action.now (held_of action.now kept.now input.old)
+        (Err fault.now) result.items }
 {
+    let line = fault_line(fault);
     match action {
-        Action::Entry(action) => entry_line(alloc, action, input, fault),
-        Action::Capability(_) => fault_line(fault),
-        Action::Source(_) => fault_line(fault),
-        Action::Difference(_) => fault_line(fault),
+        Action::Entry(action) => entry_line(alloc, has_advice, b"", action, kept, fault),
+        Action::Capability(_) => advised(&line, &advice_on_capability(has_advice, input, fault)),
+        Action::Source(_) => advised(&line, &advice_on_source(has_advice, input, fault)),
+        Action::Difference(_) => advised(&line, &advice_on_nothing(has_advice, fault)),
     }
 }
 
 /// Carries out a request of standard input, which no word names. A fault is reported, or what was looked at, if that is wanted.
 fn run_input<A: Allocator + Copy, R: Read, W: Write, E: Write>(
     alloc: A,
-    summary: Option<LintOptions>,
+    extras: Extras,
     action: &Action<'_>,
     input: &mut R,
     output: &mut W,
     errors: &mut E,
 ) -> u8
-    requires summary { HasContents summary action.now }
-    ensures ran { RanInput summary action.now (output.new ≡ output.old)
+    requires summary { HasContents extras.summary action.now }
+    ensures ran { RanInput extras action.now (output.new ≡ output.old)
         (streams (R.remaining input.old) (W.contents output.old) (E.contents errors.old))
         (streams (R.remaining input.new) (W.contents output.new) (E.contents errors.new)) result }
     ensures known { result ≢ 2 }
-    ensures silent { summary ≡ None → result ≤ 1 → errors.new ≡ errors.old }
+    ensures silent { extras.summary ≡ None → result ≤ 1 → errors.new ≡ errors.old }
     ensures unwritten { MayHaveWritten result ⊎ (output.new ≡ output.old) }
 {
     let mut kept = EntryReader::new();
-    match answer_of_input(alloc, action, &mut kept, input) {
+    let mut text = ArrayVec::new();
+    match answer_of_input(alloc, action, &mut kept, &mut text, input) {
         Ok(answer) => {
             let status = status(&Ok(answer.passed));
             let status = deliver_last(answer.bytes.as_slice(), b"", status, output, errors);
-            report_contents(alloc, summary, kept.bytes(), status, errors);
+            report_contents(alloc, extras.summary, kept.bytes(), status, errors);
             status
         }
         Err(fault) => {
-            let line = answer_line(alloc, action, kept.bytes(), &fault);
+            let (has_advice, text) = (extras.has_advice, text.as_mut_slice());
+            let line = answer_line(alloc, has_advice, action, kept.bytes(), text, &fault);
             deliver_last(b"", line.as_slice(), status(&Err(fault)), output, errors)
         }
     }
@@ -124,41 +142,35 @@ fn run_input<A: Allocator + Copy, R: Read, W: Write, E: Write>(
 fn run_request<S: Store, A: Allocator + Copy, R: Read, W: Write, E: Write>(
     store: &S,
     alloc: A,
-    summary: Option<LintOptions>,
+    extras: Extras,
     action: &Action<'_>,
     files: &[&str],
     input: &mut R,
     output: &mut W,
     errors: &mut E,
 ) -> u8
-    requires summary { HasContents summary action.now }
-    ensures ran { RanRequest (S.known store.now) summary action.now (texts_of files.now)
+    requires summary { HasContents extras.summary action.now }
+    ensures ran { RanRequest (S.known store.now) extras action.now (texts_of files.now)
         (output.new ≡ output.old)
         (streams (R.remaining input.old) (W.contents output.old) (E.contents errors.old))
         (streams (R.remaining input.new) (W.contents output.new) (E.contents errors.new)) result }
     ensures known { result ≢ 2 }
-    ensures silent { summary ≡ None → result ≤ 1 → errors.new ≡ errors.old }
+    ensures silent { extras.summary ≡ None → result ≤ 1 → errors.new ≡ errors.old }
     ensures unwritten { texts_of files.now ≡ []
         → MayHaveWritten result ⊎ (output.new ≡ output.old) }
 {
     match action {
         Action::Entry(of_entry) if !files.is_empty() => {
-            run_files(
-                store, alloc, summary, of_entry, files, input, output, errors,
-            )
+            run_files(store, alloc, extras, of_entry, files, input, output, errors)
         }
-        Action::Difference(pair) => run_pair(store, alloc, pair, input, output, errors),
-        Action::Capability(_) => { run_input(alloc, summary, action, input, output, errors) }
-        Action::Source(_) => { run_input(alloc, summary, action, input, output, errors) }
-        Action::Entry(_) => { run_input(alloc, summary, action, input, output, errors) }
+        Action::Difference(pair) => {
+            let has_advice = extras.has_advice;
+            run_pair(store, alloc, has_advice, pair, input, output, errors)
+        }
+        Action::Capability(_) => { run_input(alloc, extras, action, input, output, errors) }
+        Action::Source(_) => { run_input(alloc, extras, action, input, output, errors) }
+        Action::Entry(_) => { run_input(alloc, extras, action, input, output, errors) }
     }
-}
-
-/// Whether `lint` has a summary: at a terminal, or by `--summary`.
-fn wants_summary(at: Terminals, has_summary: bool) -> bool
-    ensures { result ≡ at.errors || has_summary }
-{
-    at.errors || has_summary
 }
 
 /// Words that request nothing: the text of help goes where results go, any other where faults go.
@@ -206,12 +218,13 @@ fn run_no_request<W: Write, E: Write>(why: &NoRequest, output: &mut W, errors: &
 /// | 6 | out of memory | `memory` |
 ///
 /// After a word that names a file a fault line starts with `FILE: `, but for a failed write, and status 5 has the system's
-/// reason, such as `FILE: No such file or directory (os error 2)`. For a folder without a file `lint` ends with status 5, and
+/// reason, such as `FILE: No such file or directory`. For a folder without a file `lint` ends with status 5, and
 /// the line is `FILE: no entry was read`.
 ///
 /// A fault line that cannot be written changes no status. No byte of an entry or of a word goes to `errors` but printable
 /// ASCII characters. If `output` is a terminal, `show` and `check` write names and labels in the notation of terminfo(5),
-/// as with `--escape`.
+/// as with `--escape`, and `show` also strings, with all names. If `errors` is a terminal, or with `--source`, advice comes after
+/// the line on a fault.
 pub fn run_at<S: Store, A: Allocator + Copy, R: Read, W: Write, E: Write>(
     store: &S,
     global: Global,
@@ -252,10 +265,8 @@ pub fn run_at<S: Store, A: Allocator + Copy, R: Read, W: Write, E: Write>(
                 has_summary,
             } = request;
             let files = files.as_slice();
-            let summary = summary_of(wants_summary(at, has_summary), &action);
-            run_request(
-                store, alloc, summary, &action, &files, input, output, errors,
-            )
+            let extras = extras_of(at, has_summary, &action);
+            run_request(store, alloc, extras, &action, &files, input, output, errors)
         }
         Err(why) => run_no_request(&why, output, errors),
     }

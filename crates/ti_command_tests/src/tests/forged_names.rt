@@ -9,7 +9,7 @@ use ti_tool::{NoStore, Terminals, run_at};
 const ROWS: &str = r##"
 # A names section with a newline and a line on a flag, and with ESC.
 ti show --escape | file | ^Z^A^]\000\000\000\000\000^A\000^E\000x\E]0;pwned^G|\E[31mred\nflag am\000\000\000\000\E[2J\000 => 0 out format: legacy\nnames: x\\E]0;pwned\^G|\\E[31mred\^Jflag am\ntext cbt \\E[2J\n
-ti show | terminal | ^Z^A^]\000\000\000\000\000^A\000^E\000x\E]0;pwned^G|\E[31mred\nflag am\000\000\000\000\E[2J\000 => 0 out format: legacy\nnames: x\\E]0;pwned\^G|\\E[31mred\^Jflag am\ntext cbt 1b5b324a\n
+ti show | terminal | ^Z^A^]\000\000\000\000\000^A\000^E\000x\E]0;pwned^G|\E[31mred\nflag am\000\000\000\000\E[2J\000 => 0 out format: legacy\nnames: x\\E]0;pwned\^G|\\E[31mred\^Jflag am\ntext cbt \\E[2J\n
 ti show | file | ^Z^A^]\000\000\000\000\000^A\000^E\000x\E]0;pwned^G|\E[31mred\nflag am\000\000\000\000\E[2J\000 => 0 out format: legacy\nnames: x\E]0;pwned^G|\E[31mred\nflag am\ntext cbt 1b5b324a\n
 # An extended text whose name has a newline and a verdict on cup.
 ti check --escape | file | ^Z^A^B\000\000\000\000\000\000\000\000\000t\000\000\000\000\000^A\000^B\000-\000\000\000\000\000\E[3J\000\E]0;pwned^G\ntext cup ok depth 1 bound 30\000 => 0 out text+ \\E]0;pwned\^G\^Jtext\\scup\\sok\\sdepth\\s1\\sbound\\s30 ok depth 0 bound 4\n

@@ -109,6 +109,18 @@ ti show --json more\E cut small | file => 3 out {"file":"more\\\\E","items":[{"k
 ti check more\E small | file => 0 out more\E: text bel ok depth 0 bound 1\nmore\E: text+ E3 ok depth 0 bound 4\nsmall: text bel ok depth 0 bound 1\n
 ti check --escape more\E small | file => 0 out more\\E: text bel ok depth 0 bound 1\nmore\\E: text+ E3 ok depth 0 bound 4\nsmall: text bel ok depth 0 bound 1\n
 ti check more\E small | terminal => 0 out more\\E: text bel ok depth 0 bound 1\nmore\\E: text+ E3 ok depth 0 bound 4\nsmall: text bel ok depth 0 bound 1\n
+# at a terminal strings are in the notation, and advice comes after the line on a fault
+ti show small | terminal => 0 out format: legacy\nnames: t\nflag bw\nnumber cols 80\ntext bel \^G\n
+ti show none | terminal => 5 err none: entity not found; ti takes files, such as "$(ti-path none)"\n
+ti show cut | terminal => 3 err cut: entry: Truncated at 5\n  the file ends before the entry does\n
+ti show cut - | terminal => 3 out file: -\nformat: legacy\nnames: t\nflag bw\nnumber cols 80\ntext bel \\E[?%[;0123456789]c\n err cut: entry: Truncated at 5\n  the file ends before the entry does\n
+ti diff cut small | terminal => 3 err cut: entry: Truncated at 5\n  the file ends before the entry does\n
+ti get bel 1 --entry - | terminal => 4 err standard input: capability: UnknownEscape at 3\n  \\E[?%[;0123456789]c\n      \^\n  this is no escape of terminfo(5); %d prints a number, %% a percent sign\n
+ti expand bel | terminal => 4 err capability: UnknownEscape at 3\n  \\E[?%[;0123456789]c\n      \^\n  this is no escape of terminfo(5); %d prints a number, %% a percent sign\n
+ti trace --of bel --entry - | terminal => 4 err standard input: capability: UnknownEscape at 3\n  \\E[?%[;0123456789]c\n      \^\n  this is no escape of terminfo(5); %d prints a number, %% a percent sign\n
+ti expand nel --entry small | terminal => 4 err small: capability: absent\n  ti get takes this name; --all-names takes the short names of all strings\n
+ti expand --all-names newline --entry small | terminal => 4 err small: capability: absent\n  ti get takes this name; --all-names takes the short names of all strings\n
+ti expand cup --entry small | terminal => 4 err small: capability: absent\n
 ti check folder | file => 5 out folder/fault: text bel fault UnknownEscape at 3\nfolder/whole: text bel ok depth 0 bound 1\nfolder/whole: text+ E3 ok depth 0 bound 4\n err folder: invalid filename\n
 ti check --json folder | file => 5 out {"file":"folder/fault","verdicts":[{"fault":"UnknownEscape","kind":"text","name":"bel","place":3}]}\n{"file":"folder/whole","verdicts":[{"bound":1,"depth":0,"kind":"text","name":"bel"},{"bound":4,"depth":0,"kind":"text","name":"E3","own":true}]}\n err folder: invalid filename\n
 ti check - | file => 1 out text bel fault UnknownEscape at 3\n
@@ -192,9 +204,9 @@ fn files_stop_where_results_cannot_be_written(rt: HostRuntime) {
 }
 
 /// Faults of files before one whose result can't be written, and a file after it.
-const TOLD: &str = r"
-ti check cut none small small => 5 err cut: entry: Truncated at 5\nnone: entity not found\noutput: failed\n
-";
+const TOLD: &str = r#"
+ti check cut none small small => 5 err cut: entry: Truncated at 5\nnone: entity not found; ti takes files, such as "$(ti-path none)"\noutput: failed\n
+"#;
 
 #[test]
 fn faults_before_a_failed_write_are_told(rt: HostRuntime) {

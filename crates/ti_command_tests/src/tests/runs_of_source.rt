@@ -20,15 +20,25 @@ ti trace --source --escape | \\E\n => 0 out place^Itoken          ^Irun    ^Ista
 
 /// Inputs that are no notation, or the notation of no capability.
 const REFUSED: &str = r"
-ti cap --source | abc\\ => 4 err source: CutShort at 3\n
-ti trace --source | %\^\^\n => 4 err source: CutShort at 2\n
+ti cap --source | abc\\ => 4 err source: CutShort at 3\n  nothing follows the last character; write \\\\ for a backslash, \\\^ for a caret\n
+ti trace --source | %\^\^\n => 4 err source: CutShort at 2\n  nothing follows the last character; write \\\\ for a backslash, \\\^ for a caret\n
 # the newline at the end is no part of it
-ti cap --source | \\\n => 4 err source: CutShort at 0\n
-ti cap --source | a\^\200\n => 4 err source: BadControl at 1\n
+ti cap --source | \\\n => 4 err source: CutShort at 0\n  nothing follows the last character; write \\\\ for a backslash, \\\^ for a caret\n
+ti cap --source | a\^\200\n => 4 err source: BadControl at 1\n  \^ takes a printable ASCII character; write \\\^ for a caret\n
 # a fault of the notation comes first
-ti cap --source | %y\\ => 4 err source: CutShort at 2\n
-# places of a capability are of its bytes
-ti cap --source | \\033\\033%y => 4 err capability: UnknownEscape at 2\n
+ti cap --source | %y\\ => 4 err source: CutShort at 2\n  nothing follows the last character; write \\\\ for a backslash, \\\^ for a caret\n
+# places of a capability are of its bytes, and the caret is below the notation
+ti cap --source | \\033\\033%y => 4 err capability: UnknownEscape at 2\n  \\E\\E%y\n      \^\n  this is no escape of terminfo(5); %d prints a number, %% a percent sign\n
+# each fault of a capability has its sentence
+ti cap --source | %p0 => 4 err capability: BadParameter at 0\n  %p0\n  \^\n  %p takes a digit from 1 to 9\n
+ti cap --source | %P1 => 4 err capability: BadVariable at 0\n  %P1\n  \^\n  %P and %g take a letter\n
+ti cap --source | a%{x} => 4 err capability: BadConstant at 1\n  a%{x}\n   \^\n  write %{5} with a number up to 2147483647, or %'c' with one character\n
+ti cap --source | %300d => 4 err capability: BadFormat at 0\n  %300d\n  \^\n  a width or precision is above 255, or a flag does not go with the conversion\n
+ti cap --source | %t => 4 err capability: StrayThen at 0\n  %t\n  \^\n  %t needs a %? before it\n
+ti cap --source | %e => 4 err capability: StrayElse at 0\n  %e\n  \^\n  %e needs a %t before it\n
+ti cap --source | %; => 4 err capability: StrayEnd at 0\n  %;\n  \^\n  %; needs a %? before it\n
+ti cap --source | %p => 4 err capability: CutShort at 0\n  %p\n  \^\n  the string ends inside an escape; write %% for a percent sign\n
+ti trace --source | %?%p1\n => 4 err capability: NoThen at 5\n  %?%p1\n       \^\n  the conditional has no %t before here\n
 ";
 
 #[test]
@@ -67,7 +77,7 @@ impl Finds for EndAfterNuls {
 /// The longest capability, and one that is longer, whatever the character is that is too many.
 const LONGEST: &str = r"
 ti cap --source | \n => 0 32767
-ti cap --source | \\\n => 4 0capability: TooLong at 32767\n
+ti cap --source | \\\n => 4 0capability: TooLong at 32767\n  a string has at most 32767 bytes\n
 ";
 
 #[test]

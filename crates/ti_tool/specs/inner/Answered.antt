@@ -8,6 +8,11 @@ use Rattle.ti_tool.specs.Calls.{FailsAsDue}
 use Rattle.ti_tool.specs.FileRuns.{Contents, Supply}
 use Rattle.ti_tool.specs.Results.{IsAnswer}
 
+-- what is held for a line on a fault: what is kept of an entry, or the input of another request
+abbrev pub held_of : Action → List ℕ → List ℕ → List ℕ
+held_of (Entry e) kept input = kept
+held_of action kept input = input
+
 -- of an entry all that was read is kept
 abbrev pub KeepsEntry : Action → List ℕ → List ℕ → Type 0
 KeepsEntry (Entry e) kept bytes = kept ≡ bytes
@@ -19,10 +24,10 @@ HasOutput action kept (Contents bytes) passed out =
     IsAnswer action passed bytes (Ok out) × KeepsEntry action kept bytes
 HasOutput action kept _ passed out = ⊥
 
--- if nothing in an entry has a name, what is kept for the line on that is what was read
+-- what is kept for the line on a fault is what was read, but of a refused entry
 abbrev pub IsKept : Action → List ℕ → List ℕ → ToolFault → Type 0
-IsKept (Entry e) kept bytes fault.NoSuchName = kept ≡ bytes
-IsKept action kept bytes e = Unit {0}
+IsKept (Entry e) kept bytes (fault.Entry refused) = Unit {0}
+IsKept action kept bytes e = kept ≡ bytes
 
 -- a fault is that of what was read, or of reading
 abbrev pub HasFault : Action → List ℕ → Supply → ToolFault → Type 0

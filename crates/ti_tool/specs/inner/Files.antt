@@ -13,4 +13,9 @@ EndsFile status bytes line = (status ≢ 2) × IsResultOrLine status bytes line
 
 abbrev pub job_of : Errand → Job
 job_of errand =
-    record { e = errand.of_entry.now; are_several = errand.are_several; summary = errand.summary }
+    record {
+      e = errand.of_entry.now;
+      are_several = errand.are_several;
+      summary = errand.summary;
+      has_advice = errand.has_advice;
+    }

@@ -5,20 +5,20 @@ use Rattle.ti_tool.proofs.ReadsIntoLemmas.{ReadsInto-empty, at_end}
 use Rattle.ti_tool.proofs.call.answer_of_bytes.Goals as goal
 
 pub returns-in_err-read_up_to-clause-answered : goal.returns-in_err-read_up_to-clause-answered
-returns-in_err-read_up_to-clause-answered g c = λ kept.
+returns-in_err-read_up_to-clause-answered g c =
     let p = err_from_is_err_and c.from_residual.result c.from_residual.ensures.1 in
     let (bytes, took, is) = c.read_up_to.ensures.taken in
     rw (p.1, p.2) (Unread, (bytes, took), refl)
 
 pub returns-in_err-bytes-clause-answered : goal.returns-in_err-bytes-clause-answered
-returns-in_err-bytes-clause-answered g c = λ kept.
+returns-in_err-bytes-clause-answered g c =
     let p = err_from_is_err_and c.from_residual-in_err-bytes.result c.from_residual-in_err-bytes.ensures.1 in
-    let took = ReadsInto-empty _ _ _ _ c.as_slice.result.now c.read_up_to.ensures.taken c.new-input.ensures c.as_slice.ensures.value in
-    let at = at_end _ _ c.read_up_to.new.bytes.items c.as_slice.result.now c.as_slice.ensures.value c.in_ok-read_up_to.ensures.end in
-    rw (p.1, p.2) (Contents c.as_slice.result.now, (took, at), (c.in_err-bytes.ensures, tt))
+    let took = ReadsInto-empty _ _ _ _ c.as_slice-input.result.now c.read_up_to.ensures.taken c.new-input.ensures c.as_slice-input.ensures.value in
+    let at = at_end _ _ c.read_up_to.new.bytes.items c.as_slice-input.result.now c.as_slice-input.ensures.value c.in_ok-read_up_to.ensures.end in
+    rw (p.1, p.2) (Contents c.as_slice-input.result.now, (took, at), (c.in_err-bytes.ensures, c.keep.ensures))
 
 pub returns-clause-answered : goal.returns-clause-answered
-returns-clause-answered g c = λ kept.
-    let took = ReadsInto-empty _ _ _ _ c.as_slice.result.now c.read_up_to.ensures.taken c.new-input.ensures c.as_slice.ensures.value in
-    let at = at_end _ _ c.read_up_to.new.bytes.items c.as_slice.result.now c.as_slice.ensures.value c.in_ok-read_up_to.ensures.end in
-    (Contents c.as_slice.result.now, (took, at), (c.in_ok-bytes.ensures, tt))
+returns-clause-answered g c =
+    let took = ReadsInto-empty _ _ _ _ c.as_slice-input.result.now c.read_up_to.ensures.taken c.new-input.ensures c.as_slice-input.ensures.value in
+    let at = at_end _ _ c.read_up_to.new.bytes.items c.as_slice-input.result.now c.as_slice-input.ensures.value c.in_ok-read_up_to.ensures.end in
+    (Contents c.as_slice-input.result.now, (took, at), (c.in_ok-bytes.ensures, tt))

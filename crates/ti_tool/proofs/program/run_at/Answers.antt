@@ -1,24 +1,25 @@
-use Rattle.std.specs.Prelude.{◌||◌, Option}
-use Rattle.std.proofs.Common.{◌≡◌, ◌∙◌, ℕ, List, ap, inl, inr, refl, subst}
-use Rattle.ti_tool.specs.Runs.{RanRequest}
+use Rattle.std.specs.Prelude.{◌||◌}
+use Rattle.std.proofs.Common.{◌≡◌, ◌∙◌, ℕ, List, ap, ap₂, inl, inr, refl, subst}
+use Rattle.ti_tool.specs.Runs.{RanRequest, extras_for}
 use Rattle.ti_tool.specs.Streams.{streams}
 use Rattle.ti_line.specs.CommandLine.{files_of}
 use Rattle.ti_line.specs.Requests.{texts_of}
-use Rattle.ti_lint.specs.declared.lint_options.LintOptions.{LintOptions}
+use Rattle.ti_tool.specs.declared.extras.Extras.{Extras}
 use Rattle.ti_tool.specs.Summaries.{summary_of}
 use Rattle.ti_tool.proofs.program.run_at.Goals as goal
 
 pub returns-in-Ok-clause-read : goal.returns-in-Ok-clause-read
 returns-in-Ok-clause-read g c = λ command rows reads.
     let asks = c.in-Ok.ensures.only command rows reads in
-    let Ran : List (List ℕ) → Type 0 = λ files. RanRequest (g.S.Store.known c.args.store.now) c.summary_of-summary.result c.in-Ok.request.action files (c.run_request.new.output ≡ c.args.output.now)
+    let Ran : List (List ℕ) → Type 0 = λ files. RanRequest (g.S.Store.known c.args.store.now) c.extras_of-extras.result c.in-Ok.request.action files (c.run_request.new.output ≡ c.args.output.now)
     (streams (g.R.Read.remaining c.args.input.now) (g.W.Write.contents c.args.output.now) (g.E.Write.contents c.args.errors.now))
     (streams (g.R.Read.remaining c.run_request.new.input) (g.W.Write.contents c.run_request.new.output) (g.E.Write.contents c.run_request.new.errors)) c.run_request.result in
-    let Summed : Option LintOptions → Type 0 = λ summary. RanRequest (g.S.Store.known c.args.store.now) summary c.in-Ok.request.action (files_of (texts_of c.args.words.now)) (c.run_request.new.output ≡ c.args.output.now)
+    let Wanted : Extras → Type 0 = λ extras. RanRequest (g.S.Store.known c.args.store.now) extras c.in-Ok.request.action (files_of (texts_of c.args.words.now)) (c.run_request.new.output ≡ c.args.output.now)
     (streams (g.R.Read.remaining c.args.input.now) (g.W.Write.contents c.args.output.now) (g.E.Write.contents c.args.errors.now))
     (streams (g.R.Read.remaining c.run_request.new.input) (g.W.Write.contents c.run_request.new.output) (g.E.Write.contents c.run_request.new.errors)) c.run_request.result in
-    let wanted = c.summary_of-summary.ensures.value ∙ ap (λ b. summary_of b c.in-Ok.request.action) c.wants_summary.ensures ∙ ap (λ has. summary_of (c.args.at.errors || has) c.in-Ok.request.action) asks.2 in
-    inl (c.in-Ok.request.action, asks.0, subst Summed wanted (subst Ran (ap texts_of c.as_slice-files.ensures.value ∙ asks.1) c.run_request.ensures.ran))
+    let wanted : c.extras_of-extras.result ≡ extras_for c.args.at (texts_of c.args.words.now) c.in-Ok.request.action =
+    ap₂ (λ s a. record { summary = s; has_advice = a }) (c.extras_of-extras.ensures.summary ∙ ap (λ has. summary_of (c.args.at.errors || has) c.in-Ok.request.action) asks.2) c.extras_of-extras.ensures.advice in
+    inl (c.in-Ok.request.action, asks.0, subst Wanted wanted (subst Ran (ap texts_of c.as_slice-files.ensures.value ∙ asks.1) c.run_request.ensures.ran))
 
 pub returns-in-Ok-clause-unread : goal.returns-in-Ok-clause-unread
 returns-in-Ok-clause-unread g c = λ none. let (command, rows, reads, asks) = c.in-Ok.ensures.read in absurd (none (command, rows, reads))
@@ -36,7 +37,7 @@ returns-in-Ok-clause-no_input g c = λ none. let (command, rows, reads, asks) = 
 pub returns-in-Ok-clause-silent : goal.returns-in-Ok-clause-silent
 returns-in-Ok-clause-silent g c = λ none.
     let (command, rows, reads, asks) = c.in-Ok.ensures.read in
-    let wanted = c.summary_of-summary.ensures.value ∙ ap (λ b. summary_of b c.in-Ok.request.action) c.wants_summary.ensures ∙ ap (λ has. summary_of (c.args.at.errors || has) c.in-Ok.request.action) asks.2 in
+    let wanted = c.extras_of-extras.ensures.summary ∙ ap (λ has. summary_of (c.args.at.errors || has) c.in-Ok.request.action) asks.2 in
     c.run_request.ensures.silent (wanted ∙ none command rows c.in-Ok.request.action reads asks.0)
 
 pub returns-in-Err-clause-read : goal.returns-in-Err-clause-read

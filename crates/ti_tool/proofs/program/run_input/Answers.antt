@@ -1,6 +1,7 @@
-use Rattle.std.proofs.Common.{◌≡◌, refl}
+use Rattle.std.proofs.Common.{◌≡◌, ap₂, refl}
 use Rattle.ti_tool.specs.Streams.{streams}
-use Rattle.ti_tool.proofs.DidCallLemmas.{fault_leads, output_leads, ran_input}
+use Rattle.ti_tool.specs.inner.Answered.{held_of}
+use Rattle.ti_tool.proofs.DidCallLemmas.{fault_leads, held_output, output_leads, ran_input}
 use Rattle.ti_tool.proofs.SummaryLemmas.{kept_summarized, unsummarized}
 use Rattle.ti_tool.proofs.program.run_input.Goals as goal
 
@@ -10,24 +11,25 @@ returns-in-Ok-clause-ran g c =
     let V : Type 0 = c.deliver_last-status.new.output ≡ c.args.output.now in
     let left = g.R.Read.remaining c.answer_of_input.new.reader in
     let held = g.W.Write.contents c.deliver_last-status.new.output in
-    ran_input c.args.action.now c.args.summary supply V
+    ran_input c.args.action.now c.args.extras supply V
     (streams (g.R.Read.remaining c.args.input.now) (g.W.Write.contents c.args.output.now) (g.E.Write.contents c.args.errors.now))
     (streams left held (g.E.Write.contents c.deliver_last-status.new.errors))
     (streams left held (g.E.Write.contents c.report_contents.new.errors))
     c.as_slice.result.now _ c.status-status.result c.deliver_last-status.result read
-    (output_leads c.args.action.now supply _ c.in-Ok.answer.passed c.in-Ok.answer.bytes.items c.as_slice.result.now _ c.status-status.result due c.in-Ok.ensures.finds c.as_slice.ensures.value refl c.status-status.ensures)
+    (output_leads c.args.extras.has_advice c.args.action.now supply _ c.in-Ok.answer.passed c.in-Ok.answer.bytes.items c.as_slice.result.now _ c.status-status.result due c.in-Ok.ensures.finds c.as_slice.ensures.value refl c.status-status.ensures)
     c.deliver_last-status.ensures.delivered
-    (kept_summarized c.args.summary c.args.action.now _ c.bytes.result.now supply _ _ c.deliver_last-status.result _ _ c.requires.summary due c.bytes.ensures (c.report_contents.ensures.told left held))
+    (kept_summarized c.args.extras.summary c.args.action.now _ c.bytes.result.now supply _ _ c.deliver_last-status.result _ _ c.requires.summary
+    (held_output c.args.action.now supply c.answer_of_input.new.kept.kept c.answer_of_input.new.text.items _ _ due) c.bytes.ensures (c.report_contents.ensures.told left held))
 
 pub returns-in-Err-clause-ran : goal.returns-in-Err-clause-ran
 returns-in-Err-clause-ran g c =
     let (supply, read, fails) = c.in-Err.ensures.answered in
     let V : Type 0 = c.deliver_last.new.output ≡ c.args.output.now in
-    ran_input c.args.action.now c.args.summary supply V
+    ran_input c.args.action.now c.args.extras supply V
     (streams (g.R.Read.remaining c.args.input.now) (g.W.Write.contents c.args.output.now) (g.E.Write.contents c.args.errors.now))
     (streams (g.R.Read.remaining c.answer_of_input.new.reader) (g.W.Write.contents c.deliver_last.new.output) (g.E.Write.contents c.deliver_last.new.errors)) _
     _ c.as_slice-in-Err.result.now c.status.result c.deliver_last.result read
-    (fault_leads c.args.action.now supply _ c.bytes-in-Err.result.now c.in-Err.fault c.answer_line-line.result.items _ c.as_slice-in-Err.result.now c.status.result fails c.bytes-in-Err.ensures c.answer_line-line.ensures
+    (fault_leads c.args.extras.has_advice c.args.action.now supply _ (held_of c.args.action.now c.bytes-in-Err.result.now c.as_mut_slice-text.result.now) c.in-Err.fault c.answer_line-line.result.items _ c.as_slice-in-Err.result.now c.status.result fails (ap₂ (held_of c.args.action.now) c.bytes-in-Err.ensures c.as_mut_slice-text.ensures.value) c.answer_line-line.ensures
     c.as_slice-in-Err.ensures.value refl c.status.ensures)
     c.deliver_last.ensures.delivered
-    (unsummarized c.args.summary _ _)
+    (unsummarized c.args.extras.summary _ _)
