@@ -1,12 +1,18 @@
 -- The remarks on control functions of a capability.
-use Rattle.std.proofs.Common.{◌≡◌, ℕ, List, refl, subst, sym}
+use Rattle.std.proofs.Common.{◌≡◌, ◌∙◌, ◌++◌, ℕ, Bool, true, false, List, [], ◌∷◌, ap, map, refl, subst, sym}
+use Rattle.std.specs.List.{flat_map}
 use Rattle.std.specs.Prelude.{Option}
+use Rattle.ti_control.specs.Effects.{effects}
+use Rattle.ti_control.specs.declared.effect.Effect.{Effect}
 use Rattle.ti_control.specs.Misplaced.{Place}
 use Rattle.ti_values.specs.Controls.{Found}
-use Rattle.ti_values.specs.Outputs.{AreOutputs, AreSamples}
+use Rattle.ti_values.specs.Idle.{IsIdle}
+use Rattle.ti_values.specs.Outputs.{AreOutputs, AreSamples, IsTriedOver, samples_of}
+use Rattle.ti_values.proofs.IdleLemmas.{idle_arms_found, idle_outputs, none_counted}
 use Rattle.ti_values.specs.declared.range.Range.{Range}
 use Rattle.ti_values.specs.declared.samples.Sample.{Sample}
-use Rattle.ti_report.specs.Controls.{AreCapabilityControls, ArePlainFound, Terminal, control_remarks, place_in, range_in}
+use Rattle.ti_report.specs.Controls.{AreCapabilityControls, AreControlsAt, ArePlainFound, Terminal, control_remarks, on_counted, on_effect, place_in, range_in}
+use Rattle.ti_report.specs.Remarks.{Remark}
 
 pub controls_are : (t : Terminal) (name text capability : List ℕ) (place : Place) (range : Option Range) (samples lent : List Sample) (outputs os : List (List Found)) (plain ps : List Found)
     → capability ≡ text → place ≡ place_in t name → range ≡ range_in t.rows name → lent ≡ samples → os ≡ outputs → ps ≡ plain
@@ -31,3 +37,37 @@ controls_are t name text capability place range samples lent outputs os plain ps
       subst F same (subst G there (subst H (sym ps_are) found)),
       refl,
     )
+
+-- ---- a text that can send no control function with an effect
+
+none_of_each : {X Y : Type 0} (f : X → List Y) → ((x : X) → f x ≡ []) → (xs : List X) → flat_map f xs ≡ []
+none_of_each f none [] = refl
+none_of_each f none (x ∷ xs) = ap (λ l. l ++ flat_map f xs) (none x) ∙ none_of_each f none xs
+
+no_remarks : (name text : List ℕ) (samples : List Sample) → control_remarks name text (map (λ sample. []) samples) [] ≡ []
+no_remarks name text samples =
+    none_of_each (on_effect name text (map (λ sample. []) samples) []) (λ effect. ap (on_counted name text) (none_counted effect samples)) effects
+
+idle_plain : (untrusted : Bool) (place : Place) (text : List ℕ) → IsIdle text true → ArePlainFound untrusted place text []
+idle_plain true place text idle = idle_arms_found place text idle
+idle_plain false place text idle = refl
+
+idle_at : (untrusted : Bool) (place : Place) (range over : Option Range) (text : List ℕ) → IsIdle text true → IsTriedOver text range over → AreControlsAt untrusted place range text []
+idle_at untrusted place range over text idle tried =
+    let samples : List Sample = samples_of over in (
+      samples,
+      map (λ sample. []) samples,
+      [],
+      (over, tried, refl),
+      idle_outputs place text samples idle,
+      idle_plain untrusted place text idle,
+      sym (no_remarks place.capability text samples),
+    )
+
+pub idle_controls : (t : Terminal) (name text capability : List ℕ) (range over : Option Range) (idle : Bool) → capability ≡ text → range ≡ range_in t.rows name
+    → IsIdle capability idle → idle ≡ true → IsTriedOver capability range over → AreCapabilityControls t name text []
+idle_controls t name text capability range over idle same of_name is holds tried =
+    let I : Bool → Type 0 = λ b. IsIdle capability b in
+    let C : List ℕ → Type 0 = λ x. AreControlsAt t.untrusted (place_in t name) (range_in t.rows name) x [] in
+    let R : Option Range → Type 0 = λ r. AreControlsAt t.untrusted (place_in t name) r capability [] in
+    subst C same (subst R of_name (idle_at t.untrusted (place_in t name) range over capability (subst I holds is) tried))

@@ -24,7 +24,7 @@ use ti_entry::Entry;
 use ti_names::Class;
 use ti_values::{
     FoundFunction, Range, arms_found, counted, is_idle, outputs_for, plain_outputs, samples_of,
-    tried_texts,
+    tried_over, tried_texts,
 };
 use ti_words::Text;
 
@@ -223,7 +223,7 @@ impl<'r, 'a, A: Allocator + Copy> Report<'r, 'a, A> {
         Ok(())
     }
 
-    /// Adds the remarks on a capability.
+    /// Adds the remarks on a capability. One that is idle is not run: there is none on it.
     fn push_capability_controls(
         &mut self,
         terminal: &Terminal<A>,
@@ -236,8 +236,11 @@ impl<'r, 'a, A: Allocator + Copy> Report<'r, 'a, A> {
     {
         let alloc = self.allocator();
         let place = place_in(terminal, subject.name);
-        let range = range_of(terminal, subject.name);
-        let samples = samples_of(alloc, capability, range)?;
+        let over = tried_over(capability, range_of(terminal, subject.name));
+        if is_idle(capability) {
+            return Ok(());
+        }
+        let samples = samples_of(alloc, over)?;
         let outputs = outputs_for(alloc, &place, capability, samples.as_slice())?;
         let plain = plain_found_if(alloc, terminal.untrusted, &place, capability)?;
         self.push_counted(subject, outputs.as_slice(), plain.as_slice())?;

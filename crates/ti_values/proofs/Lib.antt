@@ -1,6 +1,7 @@
 pub mod ArmsLemmas
 pub mod ControlsLemmas
 pub mod Examples
+pub mod IdleLemmas
 pub mod MappedLemmas
 pub mod MeantLemmas
 pub mod NegativeLemmas

@@ -13,7 +13,7 @@ use Rattle.ti_expand.specs.State.{State}
 use Rattle.ti_expand.specs.Steps.{step_state}
 use Rattle.ti_values.specs.Arms.{AreArms, WritesFrom, arm_bytes, constant_of, placed_at}
 use Rattle.ti_values.specs.Controls.{Found, found_in}
-use Rattle.ti_values.specs.Outputs.{AreArmsFound, AreOutputs, AreSamples, AreSamplesIf, IsOutput}
+use Rattle.ti_values.specs.Outputs.{AreArmsFound, AreOutputs, AreSamples, IsOutput, IsTriedOver, samples_of}
 use Rattle.ti_values.specs.Samples.{parameters_for}
 use Rattle.ti_values.specs.SentBytes.{AreSentBytes, SendsFrom, added, is_constant, placed_all, unmarked}
 use Rattle.ti_values.specs.declared.placed.PlacedByte.{PlacedByte}
@@ -65,16 +65,12 @@ one_arms text bytes other p q =
 pub one_arms_found : (place : Place) (text : List ℕ) (one other : List Found) → AreArmsFound place text one → AreArmsFound place text other → one ≡ other
 one_arms_found place text one other (bytes, are, is) (alike, also, same) = is ∙ ap (found_in place) (one_arms text bytes alike are also) ∙ sym same
 
-one_samples_if : (idle : Bool) (text : List ℕ) (range : Option Range) (samples others : List Sample) → AreSamplesIf idle text range samples → AreSamplesIf idle text range others → samples ≡ others
-one_samples_if true text range samples others p q = p ∙ sym q
-one_samples_if false text None samples others p q = p ∙ sym q
-one_samples_if false text (Some range) samples others (inl (short, is)) (inl (again, same)) = is ∙ sym same
-one_samples_if false text (Some range) samples others (inl (short, is)) (inr (long, same)) = absurd (long short)
-one_samples_if false text (Some range) samples others (inr (long, is)) (inl (short, same)) = absurd (long short)
-one_samples_if false text (Some range) samples others (inr (long, is)) (inr (again, same)) = is ∙ sym same
+one_tried_over : (text : List ℕ) (range over other : Option Range) → IsTriedOver text range over → IsTriedOver text range other → over ≡ other
+one_tried_over text None over other p q = p ∙ sym q
+one_tried_over text (Some range) over other (inl (short, is)) (inl (again, same)) = is ∙ sym same
+one_tried_over text (Some range) over other (inl (short, is)) (inr (long, same)) = absurd (long short)
+one_tried_over text (Some range) over other (inr (long, is)) (inl (short, same)) = absurd (long short)
+one_tried_over text (Some range) over other (inr (long, is)) (inr (again, same)) = is ∙ sym same
 
 pub one_samples : (text : List ℕ) (range : Option Range) (samples others : List Sample) → AreSamples text range samples → AreSamples text range others → samples ≡ others
-one_samples text range samples others (idle, is, are) (other, same, also) =
-    let t = is.tree.tree in
-    let w = is.tree.writes in
-    one_samples_if idle text range samples others are (subst (λ b. AreSamplesIf b text range others) (same.idle_is t w ∙ sym (is.idle_is t w)) also)
+one_samples text range samples others (over, is, are) (other, same, also) = are ∙ ap samples_of (one_tried_over text range over other is same) ∙ sym also

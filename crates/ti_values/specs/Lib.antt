@@ -3,6 +3,7 @@ pub mod Attributes
 pub mod Controls
 pub mod Findings
 pub mod Limits
+pub mod Idle
 pub mod Negative
 pub mod Outputs
 pub mod Ranges

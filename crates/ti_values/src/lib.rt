@@ -12,6 +12,7 @@ mod controls;
 mod empty;
 mod lacking;
 mod limits;
+pub mod laws;
 mod list;
 mod negative;
 mod outputs;
@@ -34,7 +35,9 @@ pub use limits::{
 };
 pub use list::sent_at;
 pub use negative::first_negative;
-pub use outputs::{arms_found, is_idle, outputs_for, plain_found, plain_outputs, samples_of};
+pub use outputs::{
+    arms_found, is_idle, outputs_for, plain_found, plain_outputs, samples_of, tried_over,
+};
 pub use placed::{PlacedByte, plain_bytes, sent_bytes};
 pub use range::{Range, values_of};
 pub use same::{Same, first_same};

@@ -3,7 +3,8 @@
 ghost use Rattle.std.specs.Prelude.{◌≡◌, ◌∷◌, ◌==◌, ◌||◌, [], not, IfOk};
 ghost use Rattle.ti_control.specs.Parts.{place_at};
 ghost use Rattle.ti_values.specs.Arms.{is_active};
-ghost use Rattle.ti_values.specs.Outputs.{AreArmsFound, AreOutputs, AreSamples, IsIdle, IsOutput, is_idle_but, is_idle_text, plain_found};
+ghost use Rattle.ti_values.specs.Idle.{IsIdle, is_idle_but, is_idle_text};
+ghost use Rattle.ti_values.specs.Outputs.{AreArmsFound, AreOutputs, IsOutput, IsTriedOver, plain_found, samples_of as the_samples_of};
 ghost use Rattle.ti_values.specs.Samples.{few_samples};
 ghost use Rattle.ti_values.specs.inner.Founds.{founds_held, outputs_held};
 
@@ -17,7 +18,7 @@ use std::alloc::{AllocError, Allocator};
 use ti_cap::Capability;
 use ti_control::Place;
 
-/// Whether no token of a capability writes a byte that a control function with an effect needs.
+/// Whether no token of a capability writes a byte that a control function with an effect needs: it sends none, whatever it is given.
 pub fn is_idle(capability: &Capability<'_>) -> bool
     ensures exact { IsIdle capability.now result }
 {
@@ -35,31 +36,32 @@ fn few<A: Allocator>(alloc: A) -> Result<Vec<Sample, A>, AllocError>
     Ok(list)
 }
 
-/// The samples for which a capability is tried: none if it can send no control function with an effect, else those of its range, or a few.
+/// What a capability is tried over: its range, if it has one and is not too long.
+pub fn tried_over(capability: &Capability<'_>, range: Option<Range>) -> Option<Range>
+    ensures exact { IsTriedOver capability.now range result }
+{
+    let range = range?;
+    if !is_short(capability) {
+        return None;
+    }
+    Some(range)
+}
+
+/// The samples for which a capability is tried: those of what it is tried over, or a few.
 ///
 /// # Errors
 ///
 /// Memory was refused.
 pub fn samples_of<A: Allocator + Copy>(
     alloc: A,
-    capability: &Capability<'_>,
-    range: Option<Range>,
+    over: Option<Range>,
 ) -> Result<Vec<Sample, A>, AllocError>
-    ensures all { IfOk result (λ list. AreSamples capability.now range list.items) }
+    ensures all { IfOk result (λ list. list.items ≡ the_samples_of over) }
 {
-    if is_idle(capability) {
-        return Ok(Vec::new(alloc));
+    match over {
+        Some(range) => samples_over(alloc, range),
+        None => few(alloc),
     }
-    let Some(range) = range else {
-        let list = few(alloc)?;
-        return Ok(list);
-    };
-    if is_short(capability) {
-        let list = samples_over(alloc, range)?;
-        return Ok(list);
-    }
-    let list = few(alloc)?;
-    Ok(list)
 }
 
 /// The control functions that may not stand there in what a capability sends for a sample.
