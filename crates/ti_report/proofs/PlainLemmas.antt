@@ -18,7 +18,7 @@ use Rattle.ti_lint.specs.FindingWords.{token_word}
 use Rattle.ti_values.specs.declared.tried.Tried.{Tried}
 use Rattle.ti_values.specs.declared.tried.Tried.TheVariants.{Number, Two, Attributes}
 use Rattle.ti_report.specs.declared.finding.Finding.{Finding}
-use Rattle.ti_report.specs.Findings.{finding_sentence, finding_word, token_words}
+use Rattle.ti_report.specs.Findings.{finding_remedy, finding_sentence, finding_word, token_words}
 use Rattle.ti_report.specs.Remarks.{About, OfEntry, OfName, OfText, OfTwo, Remark, Evidence, NoEvidence, Fault, Last, Value, Parameters, For, Sent, SentForTwo, Attribute, Lacking, Function}
 use Rattle.ti_report.specs.Sentences.{after, before, called_words, content_words, function_words, is_in, meaning, parameter_word, parameter_words, sent_words, value_words}
 use Rattle.ti_report.specs.Objects.{about_objects, place_number, remark_object}
@@ -39,10 +39,10 @@ shown_text (byte ∷ bytes) = is_printable_all (byte ∷ bytes)
 
 -- ---- findings
 
-token_text : (finding : TokenFinding) → IsText (token_word finding) × IsText (token_words finding).0
+token_text : (finding : TokenFinding) → IsText (token_word finding) × (IsText (token_words finding).0 × IsText (token_words finding).1)
 token_text finding = search rules
 
-row_text : (finding : Finding) → IsText (finding_word finding) × IsText (finding_sentence finding)
+row_text : (finding : Finding) → IsText (finding_word finding) × (IsText (finding_sentence finding) × IsText (finding_remedy finding))
 row_text finding = search rules
 
 -- ---- evidence
@@ -119,7 +119,7 @@ after_text (Function name content purpose) = refl
 pub meaning_text : (finding : Finding) (evidence : Evidence) → IsText (meaning finding evidence)
 meaning_text finding evidence =
     both (before evidence) (finding_sentence finding ++ after evidence) (before_text evidence)
-    (both (finding_sentence finding) (after evidence) (row_text finding).1 (after_text evidence))
+    (both (finding_sentence finding) (after evidence) (row_text finding).1.0 (after_text evidence))
 
 -- ---- objects
 
@@ -136,7 +136,8 @@ subjects_are_plain (OfTwo name text other its) =
 
 remark_is_plain : (r : Remark) → IsPlain (remark_object r)
 remark_is_plain r =
-    (refl, (row_text r.finding).0, (refl, meaning_text r.finding r.evidence, (refl, places_are_plain r.places, (refl, subjects_are_plain r.about, tt))))
+    let (word, (sentence, remedy)) = row_text r.finding in
+    (refl, word, (refl, remedy, (refl, meaning_text r.finding r.evidence, (refl, places_are_plain r.places, (refl, subjects_are_plain r.about, tt)))))
 
 remarks_are_plain : (remarks : List Remark) → HavePlain (map remark_object remarks)
 remarks_are_plain [] = tt

@@ -1,4 +1,4 @@
--- The lines of a remark: what it is about, carets below the places, and the sentence.
+-- The lines of a remark: what it is about, carets below the places, the sentence, and what to do.
 use Rattle.std.specs.Prelude.{ℕ, ◌+◌, ◌-◌, List, [], ◌∷◌, ◌++◌, codes, replicate}
 use Rattle.std.specs.List.{flat_map}
 use Rattle.ti_base.specs.Letters.{letter}
@@ -10,7 +10,7 @@ use Rattle.ti_escape.specs.Forms.{shown}
 use Rattle.ti_escape.specs.declared.form.Form.TheVariants as forms
 use Rattle.ti_escape.specs.Notation.{column, label_notation}
 use Rattle.ti_report.specs.Remarks.{About, Evidence, OfEntry, OfName, OfText, OfTwo, Remark}
-use Rattle.ti_report.specs.Findings.{finding_word}
+use Rattle.ti_report.specs.Findings.{finding_remedy, finding_word}
 use Rattle.ti_report.specs.Sentences.{meaning}
 use Rattle.ti_report.specs.declared.finding.Finding.{Finding}
 
@@ -23,6 +23,9 @@ painted color style part = opening color style ++ (part ++ closing color)
 abbrev pub sentence : Color → Finding → Evidence → List ℕ
 sentence color finding evidence =
     painted color styles.Red (finding_word finding) ++ (codes ": " ++ meaning finding evidence)
+
+abbrev pub remedy : Finding → List ℕ
+remedy finding = codes "do: " ++ finding_remedy finding
 
 -- ---- what it is about
 
@@ -65,7 +68,8 @@ caret_line color text (place ∷ places) = indented (painted color styles.Green 
 abbrev pub remark_lines : Color → List ℕ → Remark → List ℕ
 remark_lines color prefix r =
     about_lines prefix r.about
-    ++ (caret_line color (text_of r.about) r.places ++ indented (sentence color r.finding r.evidence))
+    ++ (caret_line color (text_of r.about) r.places
+    ++ (indented (sentence color r.finding r.evidence) ++ indented (remedy r.finding)))
 
 -- something stands before the first line of each
 abbrev pub report_lines : Color → List ℕ → List Remark → List ℕ

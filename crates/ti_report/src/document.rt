@@ -89,6 +89,7 @@ fn print_remark<A: Allocator>(
     let meaning = meaning_of(alloc, remark.finding(), remark.evidence())?;
     printer.begin_object();
     printer.word("finding", remark.finding().word());
+    printer.word("fix", remark.finding().remedy());
     printer.printable("meaning", meaning.as_slice());
     printer.key("places");
     printer.begin_list();
@@ -153,9 +154,9 @@ pub struct ReportJson<A: Allocator = Global> {
 /// What is wrong with an entry that was read from the bytes, as JSON: an array of objects, without a space between tokens, in the
 /// order of the lines.
 ///
-/// Each has `finding` (its word), `meaning`, `places` (in the text, of those that have a caret below) and `subjects`: what it is
-/// about, with `name` and, if it is a text, `text`; two for a pair, none for the whole entry. Each byte of the document is a
-/// character from the space to `~`. Texts that were tried for earlier entries with the same trials are not tried again.
+/// Each has `finding` (its word), `fix` (what to do), `meaning`, `places` (in the text, of those that have a caret below) and
+/// `subjects`: what it is about, with `name` and, if it is a text, `text`; two for a pair, none for the whole entry. Each byte of the
+/// document is a character from the space to `~`. Texts that were tried for earlier entries with the same trials are not tried again.
 ///
 /// # Errors
 ///

@@ -165,6 +165,8 @@ fn push_remark<A: Allocator>(
     push_caret_line(out, color, text_of(about), remark.places())?;
     out.extend_from_slice(b"  ")?;
     push_sentence(out, color, remark.finding(), remark.evidence())?;
+    out.extend_from_slice(b"\n  do: ")?;
+    out.extend_from_slice(remark.finding().remedy().as_bytes())?;
     out.extend_from_slice(b"\n")?;
     Ok(())
 }

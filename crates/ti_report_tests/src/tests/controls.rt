@@ -97,7 +97,7 @@ impl Finds for LinesOf {
 
 /// Entries, with the lines on them.
 const LINES: &str = r"
-mistakes in file | cup=\E[%i%p1%d;%p2%dH\E[6n => file: cup\n  \\E[%i%p1%d;%p2%dH\\E[6n\n                   \^\n  answer: CSI 6n, a request for the cursor's place or a status: the terminal types an answer at the shell\n
+mistakes in file | cup=\E[%i%p1%d;%p2%dH\E[6n => file: cup\n  \\E[%i%p1%d;%p2%dH\\E[6n\n                   \^\n  answer: CSI 6n, a request for the cursor's place or a status: the terminal types an answer at the shell\n  do: leave it out, or send it in a string that is for it\n
 ";
 
 #[test]

@@ -9,16 +9,16 @@ use ti_report::Trials;
 /// Texts that send what they should not for some value, with the first lines on the entry.
 const MISTAKEN: &str = r"
 # `setf` of gs6300.
-mistakes | cols#5 | lines#4 | colors#8 | setf=\E[?%?%p1%{0}%=%t0%e%p1%{1}%=%t2%e%p1%{1}%-%d%;m => setf\n  \\E[?%?%p1%{0}%=%t0%e%p1%{1}%=%t2%e%p1%{1}%-%d%;m\n  same-output: for 1 and for 3 it sends \\E[?2m\n
-mistakes | cols#5 | lines#4 | colors#8 | cub=%?%p1%{3}%=%t%e\E[%p1%dD%; => cub\n  %?%p1%{3}%=%t%e\\E[%p1%dD%;\n  empty-output: for 3 it sends nothing\n
+mistakes | cols#5 | lines#4 | colors#8 | setf=\E[?%?%p1%{0}%=%t0%e%p1%{1}%=%t2%e%p1%{1}%-%d%;m => setf\n  \\E[?%?%p1%{0}%=%t0%e%p1%{1}%=%t2%e%p1%{1}%-%d%;m\n  same-output: for 1 and for 3 it sends \\E[?2m\n  do: send something else for each of the two\n
+mistakes | cols#5 | lines#4 | colors#8 | cub=%?%p1%{3}%=%t%e\E[%p1%dD%; => cub\n  %?%p1%{3}%=%t%e\\E[%p1%dD%;\n  empty-output: for 3 it sends nothing\n  do: send something for each value, in an otherwise part if need be\n
 # `sgr` of xterm-bold has a letter too many as well.
-mistakes | cols#5 | lines#4 | colors#8 | sgr=\E[0mB => sgr\n  \\E[0mB\n  sgr-text: for no attribute it sends \\E[0mB, of which some is shown\n
-mistakes | cols#5 | lines#4 | colors#8 | cup=\E[%i%p1%d;%p2%dH\E[ => cup\n  \\E[%i%p1%d;%p2%dH\\E[\n  control-sequence: for 0 0 it sends \\E[1;1H\\E[, where a \\E[ is not ended\n
+mistakes | cols#5 | lines#4 | colors#8 | sgr=\E[0mB => sgr\n  \\E[0mB\n  sgr-text: for no attribute it sends \\E[0mB, of which some is shown\n  do: leave out what is in no sequence\n
+mistakes | cols#5 | lines#4 | colors#8 | cup=\E[%i%p1%d;%p2%dH\E[ => cup\n  \\E[%i%p1%d;%p2%dH\\E[\n  control-sequence: for 0 0 it sends \\E[1;1H\\E[, where a \\E[ is not ended\n  do: write the final byte of the sequence\n
 ";
 
 /// A text that is not tried, which is reported if all is.
 const NOT_TRIED: &str = r"
-all | cols#5 | lines#4 | colors#8 | cub=%p1%200d%p1%200d => cub\n  %p1%200d%p1%200d\n  not-tried: it is too long, or may send too much\n
+all | cols#5 | lines#4 | colors#8 | cub=%p1%200d%p1%200d => cub\n  %p1%200d%p1%200d\n  not-tried: it is too long, or may send too much\n  do: shorten the string\n
 ";
 
 /// The same, of which nothing is reported among the mistakes: the first line is one on the entry.
@@ -68,12 +68,12 @@ impl Finds for FirstLines {
 
 #[test]
 fn values_are_told(rt: HostRuntime) {
-    check_rows(&rt, MISTAKEN, &FirstLines(3));
+    check_rows(&rt, MISTAKEN, &FirstLines(4));
 }
 
 #[test]
 fn what_is_not_tried_is_told_if_all_is(rt: HostRuntime) {
-    check_rows(&rt, NOT_TRIED, &FirstLines(3));
+    check_rows(&rt, NOT_TRIED, &FirstLines(4));
     check_rows(&rt, NO_MISTAKE, &FirstLines(1));
 }
 
