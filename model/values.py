@@ -17,6 +17,7 @@ RENDITION = re.compile(rb"\x1b\[[0-?]*m")
 PARAMETERS = re.compile(rb"(?:\x1b\[|\x9b)([0-?]*)m")
 SHIFT = re.compile(rb"[\x0e\x0f]|\x1b[(-/][0-~]")
 PARTS = re.compile(rb"(?:(?:\x1b\[|\x9b)[0-?]*m|[\x0e\x0f]|\x1b[(-/][0-~])*")
+ONE_SEQUENCE = re.compile(rb"\x1b\[([0-9;]*)[@-~]")
 SEQUENCE = re.compile(rb"\x1b(?:\[[0-?]*[ -/]*.?|[ -/]*.?)", re.DOTALL)
 
 
@@ -40,6 +41,18 @@ def sent(text, value):
     """What a text sends for a value: what it writes, without padding marks."""
     output = capability.expanded(text, [*value, *(0 for _ in range(9 - len(value)))])
     return MARK.sub(b"", output)
+
+
+def origin(text, count, may_leave_out=False):
+    """The numbers of a text that for 0 is one control sequence with so many, of which the last may be left out; else none."""
+    try:
+        found = text is not None and is_short(text) and ONE_SEQUENCE.fullmatch(sent(text, ()))
+    except capability.Refused:
+        return None
+    numbers = [int(number or 1) for number in found[1].split(b";")] if found else []
+    if may_leave_out and len(numbers) == count - 1:
+        numbers.append(1)
+    return tuple(numbers) if len(numbers) == count else None
 
 
 def prints_negative(text, value):

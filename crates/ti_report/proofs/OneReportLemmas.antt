@@ -1,6 +1,6 @@
 -- An entry has one report.
-use Rattle.std.proofs.Common.{◌≡◌, ◌∙◌, ◌⊎◌, ◌↔◌, ◌++◌, ℕ, suc, Bool, true, false, List, [], ◌∷◌, Option, ap, ap₂, arith, inl, inr, length, map, subst, sym, take}
-use Rattle.std.specs.Prelude.{◌==◌}
+use Rattle.std.proofs.Common.{◌≡◌, ◌∙◌, ◌⊎◌, ◌↔◌, ◌++◌, ℕ, suc, Bool, true, false, List, [], ◌∷◌, Option, Some, None, ap, ap₂, arith, inl, inr, length, map, refl, subst, sym, take}
+use Rattle.std.specs.Prelude.{◌==◌, codes}
 use Rattle.serde_json.specs.Data.{Data}
 use Rattle.ti_cap.specs.declared.language.CapRefused.{CapRefused}
 use Rattle.ti_cap.specs.Refusal.{IsFaultless, IsRefusal}
@@ -16,15 +16,18 @@ use Rattle.ti_names.specs.declared.class.Class.{Class}
 use Rattle.ti_names.specs.declared.class.Class.TheVariants as classes
 use Rattle.ti_values.specs.declared.range.Range.{Range}
 use Rattle.ti_values.specs.declared.range.Range.TheVariants as ranges
+use Rattle.ti_values.specs.declared.axes.Axes.{Axes}
+use Rattle.ti_values.specs.declared.axes.Axes.TheVariants.{Both, Line, Column, Lines}
 use Rattle.ti_values.specs.declared.tried.Tried.{Tried}
-use Rattle.ti_values.specs.Ranges.{values}
+use Rattle.ti_values.specs.declared.tried.Tried.TheVariants.{Number}
+use Rattle.ti_values.specs.Ranges.{parameters_of, values}
 use Rattle.ti_values.specs.Sent.{AreSent}
 use Rattle.ti_control.specs.Capabilities.{is_sent}
 use Rattle.ti_control.specs.Misplaced.{Place}
 use Rattle.ti_values.specs.Controls.{Found}
 use Rattle.ti_values.specs.Outputs.{AreOutputs}
 use Rattle.ti_values.proofs.OneControlsLemmas.{one_arms_found, one_outputs, one_samples}
-use Rattle.ti_values.proofs.OneSentLemmas.{one_first_of, one_first_same, one_sent}
+use Rattle.ti_values.proofs.OneSentLemmas.{one_first_of, one_first_same, one_sends, one_sent}
 use Rattle.ti_words.specs.Texts.{AbsentText, CancelledText, TextOf, TextValue}
 use Rattle.ti_words.specs.Value.{EntryValue, NamedPart}
 use Rattle.ti_report.specs.declared.marks.Sought.{Sought}
@@ -47,6 +50,7 @@ use Rattle.ti_report.specs.declared.names.NameKind.TheVariants.{Alias}
 use Rattle.ti_report.specs.Objects.{remark_object}
 use Rattle.ti_report.specs.Remarks.{Evidence, NoEvidence, Remark, TextRemark, placed, with_name}
 use Rattle.ti_report.specs.Reports.{AreFindings, AreRemarks, AreLines, AreTextRemarks, IsReport, IsTextReport}
+use Rattle.ti_report.specs.Origins.{AreOriginRemarks, AreOriginsBeside, AreOriginsIn, AreOriginsOf, IsOriginOf, IsOriginReport, IsSentAtOrigin, IsSentIfShort, Motion, origin_remarks}
 use Rattle.ti_report.specs.Pairs.{all_pair_remarks}
 use Rattle.ti_report.specs.Reported.{reported}
 use Rattle.ti_report.specs.Sequences.{AreSequenceRemarks, IsSequenceIn, IsSequenceOf}
@@ -230,6 +234,43 @@ one_repeated names r s (aliases, are, told) (others, also, too) =
     let P : List ℕ → Type 0 = λ l. AreReports (IsNameReport Alias (parted [] l)) 0 (parted [] l) s in
     reports (IsNameReport Alias (parted [] aliases)) (λ i name. either _ _ _) 0 (parted [] aliases) r s told (subst P (same_aliases names others aliases also are) too)
 
+-- ---- motions beside `cup`
+
+one_if_short : (text : List ℕ) (one other : Option (List ℕ)) → IsSentIfShort text one → IsSentIfShort text other → one ≡ other
+one_if_short text None None p q = refl
+one_if_short text None (Some sent) p q = absurd (p q.0)
+one_if_short text (Some sent) None p q = absurd (q p.0)
+one_if_short text (Some sent) (Some other) p q = ap (λ x. Some x) (one_sends text (parameters_of (Number 0)) sent other p.1 q.1)
+
+one_at_origin : (text : List ℕ) (one other : Option (List ℕ)) → IsSentAtOrigin text one → IsSentAtOrigin text other → one ≡ other
+one_at_origin text one other (inl (a, why, e)) (inl (b, because, f)) = e ∙ sym f
+one_at_origin text one other (inl (a, why, e)) (inr (sound, is)) = absurd (passes text a sound why)
+one_at_origin text one other (inr (sound, is)) (inl (b, because, f)) = absurd (passes text b sound because)
+one_at_origin text one other (inr (sound, is)) (inr (again, too)) = one_if_short text one other is too
+
+one_origin_of : (cup : Motion) (name : List ℕ) (axes : Axes) (text : TextValue) → IsOne (IsOriginOf cup name axes text)
+one_origin_of cup name axes (TextOf text) r s (a, is, e) (b, too, f) = e ∙ ap (origin_remarks cup name text axes) (one_at_origin text a b is too) ∙ sym f
+one_origin_of cup name axes AbsentText r s d h = d ∙ sym h
+one_origin_of cup name axes CancelledText r s d h = d ∙ sym h
+
+one_origin : (v : EntryValue) (cup : Motion) (row : List ℕ × Axes) → IsOne (IsOriginReport v cup row)
+one_origin v cup (name, axes) = one_origin_of cup name axes (text_named v name)
+
+one_beside : (v : EntryValue) (cup : Motion) → IsOne (AreOriginsBeside v cup)
+one_beside v cup =
+    in_turn _ _ (one_origin v cup (codes "home", Both)) (in_turn _ _ (one_origin v cup (codes "vpa", Line))
+    (in_turn _ _ (one_origin v cup (codes "hpa", Column)) (one_origin v cup (codes "csr", Lines))))
+
+one_origins_of : (v : EntryValue) (text : List ℕ) (sent : Option (List ℕ)) → IsOne (AreOriginsOf v text sent)
+one_origins_of v text None = λ r s d h. d ∙ sym h
+one_origins_of v text (Some sent) = one_beside v (record { name = codes "cup"; text = text; sent = sent })
+
+one_origins_in : (v : EntryValue) (text : TextValue) → IsOne (AreOriginsIn v text)
+one_origins_in v (TextOf text) r s (a, is, d) (b, too, h) =
+    one_origins_of v text a r s d (subst (λ x. AreOriginsOf v text x s) (one_at_origin text b a too is) h)
+one_origins_in v AbsentText r s d h = d ∙ sym h
+one_origins_in v CancelledText r s d h = d ∙ sym h
+
 -- ---- control functions
 
 one_plain_found : (untrusted : Bool) (place : Place) (text : List ℕ) (found other : List Found) → ArePlainFound untrusted place text found → ArePlainFound untrusted place text other → found ≡ other
@@ -270,10 +311,10 @@ one_controls untrusted v = all (AreControlsOf (terminal_of untrusted v)) (λ t. 
 one_found_list : (untrusted : Bool) (bytes : List ℕ) (v : EntryValue) → IsOne (AreRemarks untrusted bytes v)
 one_found_list untrusted bytes v =
     in_turn (AreTextRemarks v) _ (one_of_texts v) (in_turn (AreValueRemarks v) _ (one_of_values v) (in_turn (AreSequenceRemarks v) _ (one_sequences v)
-    (in_turn (λ all. all ≡ all_pair_remarks v) _ (λ x y p q. p ∙ sym q) (in_turn (AreKeyRemarks v) _ (one_keys (entry_keys v))
+    (in_turn (λ all. all ≡ all_pair_remarks v) _ (λ x y p q. p ∙ sym q) (in_turn (AreOriginRemarks v) _ (one_origins_in v _) (in_turn (AreKeyRemarks v) _ (one_keys (entry_keys v))
     (in_turn (AreNameRemarks v.extended) _ (one_names v.extended) (in_turn (AreNameByteRemarks v) _ (one_bytes v)
     (in_turn (λ all. all ≡ action_remarks v) _ (λ x y p q. p ∙ sym q)
-    (in_turn (λ all. all ≡ whole_remarks bytes v) _ (λ x y p q. p ∙ sym q) (one_controls untrusted v)))))))))
+    (in_turn (λ all. all ≡ whole_remarks bytes v) _ (λ x y p q. p ∙ sym q) (one_controls untrusted v))))))))))
 
 pub one_report : (options : LintOptions) (bytes : List ℕ) (v : EntryValue) → IsOne (IsReport options bytes v)
 one_report options bytes v r s (found, are, d) (other, also, h) = d ∙ ap (reported options.level) (one_found_list options.untrusted bytes v found other are also) ∙ sym h

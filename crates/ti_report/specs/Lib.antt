@@ -3,6 +3,7 @@ pub mod Sentences
 pub mod Findings
 pub mod Blocks
 pub mod Objects
+pub mod Origins
 pub mod Marks
 pub mod Lines
 pub mod Constants

@@ -19,6 +19,7 @@ use Rattle.ti_report.specs.Subjects.{KnownText, known_texts}
 use Rattle.ti_report.specs.NameBytes.{AreNameByteRemarks}
 use Rattle.ti_report.specs.Names.{AreNameRemarks}
 use Rattle.ti_report.specs.Objects.{remark_object}
+use Rattle.ti_report.specs.Origins.{AreOriginRemarks}
 use Rattle.ti_report.specs.Pairs.{all_pair_remarks}
 use Rattle.ti_report.specs.Remarks.{Remark, TextRemark, with_name}
 use Rattle.ti_report.specs.Reported.{reported}
@@ -61,7 +62,7 @@ AreTextRemarks v remarks =
     (stored : Variables) × AreStored (known_texts v) stored × AreAll (IsTextReport stored) (known_texts v) remarks
 
 -- what is found, in order: of the texts as their capabilities are ordered, of texts by their values and by their control
--- sequences, of pairs of texts, of keys, of names and their bytes, of what programs do, of the whole entry that the bytes spell,
+-- sequences, of pairs of texts, of motions beside `cup`, of keys, of names and their bytes, of what programs do, of the whole entry that the bytes spell,
 -- and of control functions
 abbrev pub AreRemarks : Bool → List ℕ → EntryValue → List Remark → Type 0
 AreRemarks untrusted bytes v =
@@ -69,11 +70,12 @@ AreRemarks untrusted bytes v =
     (InTurn (AreValueRemarks v)
     (InTurn (AreSequenceRemarks v)
     (InTurn (λ all. all ≡ all_pair_remarks v)
+    (InTurn (AreOriginRemarks v)
     (InTurn (AreKeyRemarks v)
     (InTurn (AreNameRemarks v.extended)
     (InTurn (AreNameByteRemarks v)
     (InTurn (λ all. all ≡ action_remarks v)
-    (InTurn (λ all. all ≡ whole_remarks bytes v) (AreControlRemarks untrusted v)))))))))
+    (InTurn (λ all. all ≡ whole_remarks bytes v) (AreControlRemarks untrusted v))))))))))
 
 -- those that the table of findings has for these options
 abbrev pub IsReport : LintOptions → List ℕ → EntryValue → List Remark → Type 0

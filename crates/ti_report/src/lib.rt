@@ -24,6 +24,7 @@ mod lookup;
 mod marks;
 mod name_bytes;
 mod names;
+mod origin;
 mod pairs;
 mod remark;
 mod report;

@@ -257,6 +257,7 @@ impl<'r, 'a, A: Allocator + Copy> Report<'r, 'a, A> {
         self.push_values(trials)?;
         self.push_sequences()?;
         self.push_pairs()?;
+        self.push_origins()?;
         self.push_keys()?;
         self.push_names()?;
         self.push_name_bytes()?;

@@ -12,11 +12,14 @@ use Rattle.ti_cap.specs.declared.mode.Mode.TheVariants.{Run}
 use Rattle.ti_expand.specs.State.{start}
 use Rattle.ti_expand.specs.Steps.{steps}
 use Rattle.ti_values.specs.Attributes.{lacks_part}
+use Rattle.ti_values.specs.Axes.{numbers_differ}
+use Rattle.ti_values.specs.Idle.{is_idle_text}
 use Rattle.ti_values.specs.Negative.{some_negative}
 use Rattle.ti_values.specs.Ranges.{parameters_of}
 use Rattle.ti_values.specs.Renditions.{are_parts, are_parts_after, lacks_new, parameters, shifts, split_after}
 use Rattle.ti_values.specs.Sent.{fresh}
 use Rattle.ti_values.specs.Sequences.{is_ansi}
+use Rattle.ti_values.specs.declared.axes.Axes.TheVariants.{Both, Line, Column, Lines}
 use Rattle.ti_values.specs.declared.tried.Tried.TheVariants.{Number}
 
 -- ---- parameters and shifts
@@ -76,3 +79,18 @@ negative_rows : (is_negative_for 1 (less_two ++ printed Signed ∷ []) ≡ true)
     × (is_negative_for 1 (CondOpen ∷ Constant (pos 0) ∷ CondThen ∷ less_two ++ printed Signed ∷ CondElse ∷ CondClose ∷ []) ≡ false)
 unfolding int_wrap digits is_negative_for less_two printed
 negative_rows = (refl, refl, refl, refl)
+
+-- ---- numbers of motions: `vpa` of ncr160vt200pp, `home` of ibmpcx and of linux, `csr` of vt100-s; zeros in front, and more than numbers
+
+axes_rows : (numbers_differ Line (escape (codes "[1;1H")) (escape (codes "[0d")) ≡ true) × (numbers_differ Both (escape (codes "[0;0H")) (escape (codes "[H")) ≡ true)
+    × (numbers_differ Both (escape (codes "[1;1H")) (escape (codes "[H")) ≡ false) × (numbers_differ Lines (escape (codes "[2;1H")) (escape (codes "[2;2r")) ≡ false)
+    × (numbers_differ Column (escape (codes "[1;1H")) (escape (codes "[01G")) ≡ false) × (numbers_differ Line (escape (codes "[1;1H")) (escape (codes "[?0d")) ≡ false)
+unfolding escape
+axes_rows = (refl, refl, refl, refl, refl, refl)
+
+-- ---- texts that can send no control function with an effect: a rendition, and none: a request, a mode of keys, an OSC
+
+idle_rows : (is_idle_text (escape (codes "[7m")) ≡ true) × (is_idle_text (escape (codes "[6n")) ≡ false) × (is_idle_text (escape (codes "[>4;1m")) ≡ false)
+    × (is_idle_text (escape (codes "]0;")) ≡ false)
+unfolding escape
+idle_rows = (refl, refl, refl, refl)

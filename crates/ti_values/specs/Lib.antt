@@ -1,9 +1,10 @@
 pub mod Arms
 pub mod Attributes
+pub mod Axes
 pub mod Controls
 pub mod Findings
-pub mod Limits
 pub mod Idle
+pub mod Limits
 pub mod Negative
 pub mod Outputs
 pub mod Ranges

@@ -8,11 +8,12 @@
 
 mod arms;
 mod attribute;
+mod axes;
 mod controls;
 mod empty;
 mod lacking;
-mod limits;
 pub mod laws;
+mod limits;
 mod list;
 mod negative;
 mod outputs;
@@ -28,6 +29,7 @@ mod tried;
 
 pub use arms::{arms_of, avoids_all, is_active};
 pub use attribute::{attributes, first_combination, is_different, is_ignored};
+pub use axes::{Axes, numbers_differ};
 pub use controls::{FoundFunction, counted, found_in};
 pub use empty::first_empty;
 pub use limits::{
@@ -43,6 +45,6 @@ pub use range::{Range, values_of};
 pub use same::{Same, first_same};
 pub use samples::{Sample, few_samples, samples_over};
 pub use screen::tried_texts;
-pub use sent::sent_for;
+pub use sent::{sent_by, sent_for};
 pub use sequence::{first_shown, first_unended, has_unended, is_ansi};
 pub use tried::Tried;

@@ -31,13 +31,17 @@ pub fn without_marks<A: Allocator + Copy>(alloc: A, bytes: &[u8]) -> Result<Vec<
     }
 }
 
-/// What a capability sends for some parameters.
-fn sent_by<A: Allocator + Copy>(
+/// What a capability sends for a value: its output without padding marks, over fresh variables.
+///
+/// # Errors
+///
+/// Memory was refused.
+pub fn sent_by<A: Allocator + Copy>(
     alloc: A,
     capability: &Capability<'_>,
     value: Tried,
 ) -> Result<Vec<u8, A>, AllocError>
-    ensures { IfOk result
+    ensures all { IfOk result
         (λ sent. Sends capability.now (parameters_of value) sent.items) }
 {
     let parameters = value.parameters();

@@ -60,7 +60,7 @@ fn intermediate_len(bytes: &[u8]) -> usize
 }
 
 /// Whether bytes start with one that ends a control sequence.
-fn starts_final(bytes: &[u8]) -> bool
+pub(crate) fn starts_final(bytes: &[u8]) -> bool
     ensures { result ≡ starts_final bytes.now }
 {
     match bytes {
@@ -110,8 +110,9 @@ pub fn first_unended<A: Allocator>(sent: &[Vec<u8, A>]) -> Option<usize>
 }
 
 /// How many digits stand at the front.
-fn width_len(bytes: &[u8]) -> usize
-    ensures { result ≡ prefix_len is_digit bytes.now }
+pub(crate) fn width_len(bytes: &[u8]) -> usize
+    ensures count { result ≡ prefix_len is_digit bytes.now }
+    ensures within { result ≤ length bytes.now }
 {
     bytes
         .iter()
@@ -120,7 +121,7 @@ fn width_len(bytes: &[u8]) -> usize
 }
 
 /// What stands after a text, if the bytes start with it.
-fn after_text<'a>(text: &[u8], bytes: &'a [u8]) -> Option<&'a [u8]>
+pub(crate) fn after_text<'a>(text: &[u8], bytes: &'a [u8]) -> Option<&'a [u8]>
     ensures { option_map (λ rest. rest.now) result ≡ after_text text.now bytes.now }
 {
     if !bytes.starts_with(text) {

@@ -13,6 +13,8 @@ use Rattle.ti_report.specs.Controls as controls
 use Rattle.ti_report.specs.declared.controls.Terminal.{Terminal}
 use Rattle.ti_report.specs.declared.subject.KnownText.{KnownText}
 use Rattle.ti_report.specs.Subjects as subjects
+use Rattle.ti_report.specs.declared.origin.Motion.{Motion}
+use Rattle.ti_report.specs.Origins as origins
 use Rattle.ti_report.specs.declared.sent.Trial.{Trial}
 use Rattle.ti_report.specs.Values as values
 use Rattle.ti_values.specs.Sent.{texts_of}
@@ -50,6 +52,9 @@ row_held r =
 abbrev pub trial_held : {A : Type 0} → Trial A → values.Trial
 trial_held t =
     record { name = t.subject.name.now; text = t.subject.text.now; tried = t.tried.now; sent = texts_of t.sent.now }
+
+abbrev pub motion_held : Motion → origins.Motion
+motion_held m = record { name = m.subject.name.now; text = m.subject.text.now; sent = m.sent.now }
 
 abbrev pub terminal_held : {A : Type 0} → Terminal A → controls.Terminal
 terminal_held t =

@@ -5,6 +5,7 @@ use Rattle.ti_report.specs.Keys.{AreKeyRemarks}
 use Rattle.ti_report.specs.Lines.{InTurn}
 use Rattle.ti_report.specs.NameBytes.{AreNameByteRemarks}
 use Rattle.ti_report.specs.Names.{AreNameRemarks}
+use Rattle.ti_report.specs.Origins.{AreOriginRemarks}
 use Rattle.ti_report.specs.Pairs.{all_pair_remarks}
 use Rattle.ti_report.specs.Remarks.{Remark}
 use Rattle.ti_report.specs.Reports.{AreTextRemarks}
@@ -29,6 +30,9 @@ Sequences on = AreSequenceRemarks on.entry
 
 abbrev Pairs : Rule
 Pairs on = λ all. all ≡ all_pair_remarks on.entry
+
+abbrev Origins : Rule
+Origins on = AreOriginRemarks on.entry
 
 abbrev Keys : Rule
 Keys on = AreKeyRemarks on.entry
@@ -57,18 +61,20 @@ returns g c =
     let values = c.push_values.new.self in
     let sequences = c.push_sequences.new.self in
     let pairs = c.push_pairs.new.self in
+    let origins = c.push_origins.new.self in
     let keys = c.push_keys.new.self in
     let names = c.push_names.new.self in
     let bytes = c.push_name_bytes.new.self in
     let actions = c.push_actions.new.self in
     let whole = c.push_whole.new.self in
     let last = c.push_controls.new.self in
-    then Texts (And Values (And Sequences (And Pairs (And Keys (And Names (And Bytes (And Actions (And Whole Controls)))))))) c.args.self.now texts last c.in_ok-push_texts.ensures
-    (then Values (And Sequences (And Pairs (And Keys (And Names (And Bytes (And Actions (And Whole Controls))))))) texts values last c.in_ok-push_values.ensures
-    (then Sequences (And Pairs (And Keys (And Names (And Bytes (And Actions (And Whole Controls)))))) values sequences last c.in_ok-push_sequences.ensures
-    (then Pairs (And Keys (And Names (And Bytes (And Actions (And Whole Controls))))) sequences pairs last (these _ sequences pairs c.in_ok-push_pairs.ensures)
-    (then Keys (And Names (And Bytes (And Actions (And Whole Controls)))) pairs keys last c.in_ok-push_keys.ensures
+    then Texts (And Values (And Sequences (And Pairs (And Origins (And Keys (And Names (And Bytes (And Actions (And Whole Controls))))))))) c.args.self.now texts last c.in_ok-push_texts.ensures
+    (then Values (And Sequences (And Pairs (And Origins (And Keys (And Names (And Bytes (And Actions (And Whole Controls)))))))) texts values last c.in_ok-push_values.ensures
+    (then Sequences (And Pairs (And Origins (And Keys (And Names (And Bytes (And Actions (And Whole Controls))))))) values sequences last c.in_ok-push_sequences.ensures
+    (then Pairs (And Origins (And Keys (And Names (And Bytes (And Actions (And Whole Controls)))))) sequences pairs last (these _ sequences pairs c.in_ok-push_pairs.ensures)
+    (then Origins (And Keys (And Names (And Bytes (And Actions (And Whole Controls))))) pairs origins last c.in_ok-push_origins.ensures
+    (then Keys (And Names (And Bytes (And Actions (And Whole Controls)))) origins keys last c.in_ok-push_keys.ensures
     (then Names (And Bytes (And Actions (And Whole Controls))) keys names last c.in_ok-push_names.ensures
     (then Bytes (And Actions (And Whole Controls)) names bytes last c.in_ok-push_name_bytes.ensures
     (then Actions (And Whole Controls) bytes actions last (these _ bytes actions c.in_ok-push_actions.ensures)
-    (then Whole Controls actions whole last (these _ actions whole c.in_ok-push_whole.ensures) c.in_ok-push_controls.ensures))))))))
+    (then Whole Controls actions whole last (these _ actions whole c.in_ok-push_whole.ensures) c.in_ok-push_controls.ensures)))))))))
