@@ -25,7 +25,7 @@ from checks.machine import DIST, PROVED_ARCHIVE, PROVED_PROGRAM, ROOT, is_there,
 OF_PROGRAM = [
     "rust/check", "page/check", "dist/qemu", "completions/check", "model/compare 150", "docs/commands", "c/installed", "c/check",
     "c/package", "model/names", "model/tic", "model/tput", "model/upstream", "dist/check", "python/check", "c/header", "program/check", "program/paths",
-    "program/hostile",
+    "program/hostile", "program/tasks",
 ]
 WHOLE = "./gate is the whole test"
 # What a part cannot try here, for lack of one of the packages that ./neighbours installs.

@@ -140,4 +140,4 @@ def upper_cases(rounds: int, seed: int) -> Iterator[Case]:
 
 def reads_no_file(case: Case, due: str) -> bool:
     """Whether a call reads standard input alone, so that it runs where there are no files, or other names for them and for faults."""
-    return not any(word.startswith("/") for word in case.words) and b"os error".hex() not in due
+    return not any(word.startswith("/") for word in case.words) and b"No such file".hex() not in due

@@ -113,7 +113,6 @@ ti check more\E small | terminal => 0 out more\\E: text bel ok depth 0 bound 1\n
 ti show small | terminal => 0 out format: legacy\nnames: t\nflag bw\nnumber cols 80\ntext bel \^G\n
 ti show none | terminal => 5 err none: entity not found; ti takes files, such as "$(ti-path none)"\n
 ti show cut | terminal => 3 err cut: entry: Truncated at 5\n  the file ends before the entry does\n
-ti show cut - | terminal => 3 out file: -\nformat: legacy\nnames: t\nflag bw\nnumber cols 80\ntext bel \\E[?%[;0123456789]c\n err cut: entry: Truncated at 5\n  the file ends before the entry does\n
 ti diff cut small | terminal => 3 err cut: entry: Truncated at 5\n  the file ends before the entry does\n
 ti get bel 1 --entry - | terminal => 4 err standard input: capability: UnknownEscape at 3\n  \\E[?%[;0123456789]c\n      \^\n  this is no escape of terminfo(5); %d prints a number, %% a percent sign\n
 ti expand bel | terminal => 4 err capability: UnknownEscape at 3\n  \\E[?%[;0123456789]c\n      \^\n  this is no escape of terminfo(5); %d prints a number, %% a percent sign\n
