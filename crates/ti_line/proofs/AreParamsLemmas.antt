@@ -9,7 +9,7 @@ use Rattle.ti_line.specs.declared.params.WordFault.{WordFault}
 use Rattle.ti_line.specs.declared.params.WordFault.TheVariants.{TooMany, BadWord}
 use Rattle.ti_line.specs.Requests.{texts_of}
 use Rattle.ti_expand.specs.declared.values.Value.{Value}
-use Rattle.ti_expand.specs.declared.values.Value.TheVariants.{Num, Text}
+use Rattle.ti_expand.specs.declared.values.Value.TheVariants.{Text}
 use Rattle.ti_line.specs.declared.given.Given.{Given}
 use Rattle.ti_line.specs.declared.given.Param.{Param}
 use Rattle.ti_line.specs.declared.given.Param.TheVariants as params

@@ -1,6 +1,6 @@
 -- Worked rows of the command line.
 use Rattle.std.proofs.Common.{◌≡◌, arith, List, [], ◌∷◌, true, false, map, refl}
-use Rattle.std.specs.Prelude.{◌<◌, Option, None, Some, ℕ, codes, filter, pos}
+use Rattle.std.specs.Prelude.{None, Some, ℕ, codes, filter, pos}
 use Rattle.clap.specs.Facts.{explicit_source}
 use Rattle.clap.specs.Words.{Row, Text}
 use Rattle.clap.proofs.OnLiterals.{clap_on_literals}

@@ -1,6 +1,6 @@
 -- Words on which `clap` finds no fault are read, and what is wanted is there.
-use Rattle.std.proofs.Common.{◌≡◌, ◌≤◌, ◌==◌, ◌||◌, ◌&&◌, ℕ, Bool, true, false, not, zero, suc, length, refl, sym, ◌∙◌, ap, subst, true≢false, arith, List, [], ◌∷◌, Option, Some, None, is_some, cond, IfSome, nat_lt, nat_le, leb-true, le-leb, codes, drop, unwrap_or}
-use Rattle.std.specs.Prelude.{int_le, pos, neg_ℤ, slice_get, option_and_then, option_map, if◌then◌else◌}
+use Rattle.std.proofs.Common.{◌≡◌, ◌≤◌, ◌==◌, ◌||◌, ◌&&◌, ℕ, Bool, true, false, not, zero, suc, length, refl, sym, ◌∙◌, ap, subst, true≢false, arith, List, [], ◌∷◌, Option, Some, None, is_some, cond, IfSome, nat_lt, leb-true, codes, drop, unwrap_or}
+use Rattle.std.specs.Prelude.{int_le, pos, neg_ℤ, slice_get, option_and_then, option_map}
 use Rattle.std.specs.Char.{digit_value}
 use Rattle.std.specs.List.{find, fold}
 use Rattle.std.specs.Option.{option_map_or}
@@ -9,7 +9,6 @@ use Rattle.std.specs.Str.Parse.{digits_value, without_leading_plus}
 use Rattle.std.proofs.lemmas.Bool.{eqb-true}
 use Rattle.std.proofs.lemmas.Slice.Eq.{bytes_eq-Decides}
 use Rattle.clap.proofs.WalkLemmas.{both}
-use Rattle.clap.specs.Words.{first_of}
 use Rattle.clap.specs.Lexer.{long_of, short_of, without_minus}
 use Rattle.clap.specs.Kinds.{or_else, range_kinds, value_kinds, values_kinds}
 use Rattle.clap.specs.Simple.{Shape, argument_words, built, built_leaf, entered, filled, inherited, label_of, names_of, rows_at, subcommand_of, with_index}
