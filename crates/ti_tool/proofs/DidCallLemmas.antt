@@ -1,6 +1,6 @@
 -- How a request is answered, from what is read, and what a call has done.
-use Rattle.std.proofs.Common.{◌≡◌, ◌<◌, ℕ, Bool, ◌⊎◌, inl, inr, List, [], ◌++◌, Ok, Err, Some, None, append-nil, refl, subst, sym, ap, ◌∙◌}
-use Rattle.std.specs.Prelude.{Option, Result, IfErr, IfOk, IfSome, MatchResult, false, true, unwrap_or}
+use Rattle.std.proofs.Common.{◌≡◌, ◌<◌, ℕ, Bool, ◌⊎◌, inl, inr, List, [], ◌++◌, Ok, Err, Some, None, append-nil, cond, length, refl, subst, sym, ap, ◌∙◌}
+use Rattle.std.specs.Prelude.{Option, Result, IfErr, IfOk, IfSome, MatchResult, false, nat_le, true, unwrap_or}
 use Rattle.std.specs.Io.KnownBytes.{Consumes, IsAtEnd}
 use Rattle.std.proofs.KnownBytes.{Keeps-refl}
 use Rattle.ti_tool.specs.declared.fault.ToolFault.{ToolFault}
@@ -19,7 +19,8 @@ use Rattle.ti_line.specs.declared.request.Action.TheVariants.{Capability, Differ
 use Rattle.ti_line.specs.declared.request.EntryAction.{EntryAction}
 use Rattle.ti_line.specs.declared.request.EntryAction.TheVariants as of_entry
 use Rattle.ti_tool.specs.Calls.{DidCall, DidCheck, FailsAsDue, HasReadEnough, IsEnough, IsFailedWrite, Wrote, stop_fault}
-use Rattle.ti_tool.specs.Advice.{IsAdvised, hints}
+use Rattle.ti_tool.specs.Advice.{IsAdvised, advice_if, hints, kept_of, most_kept, read_text, text_advice}
+use Rattle.ti_tool.specs.Sources.{notation_in, text_of}
 use Rattle.ti_tool.specs.declared.extras.Extras.{Extras}
 use Rattle.ti_tool.specs.FaultLines.{IsAnswerLine, action_line, fault_line}
 use Rattle.ti_tool.specs.FileRuns.{Contents, Delivered, IsInput, IsOutcomeOfInput, NoMemory, RanInput, Supply, Unread, looked}
@@ -165,9 +166,27 @@ refused_told (Some front) (of_entry.Trace t) r kept bytes line told = told
 refused_told (Some front) (of_entry.Expand x) r kept bytes line told = told
 refused_told (Some front) e r kept bytes line told = told
 
+-- an input is kept as it was kept before
+kept_twice : (input : List ℕ) → kept_of (kept_of input) ≡ kept_of input
+kept_twice input = help _ refl
+  where
+    help : (short : Bool) → nat_le (length input) most_kept ≡ short → kept_of (cond short input []) ≡ cond short input []
+    help true is = ap (λ b. cond b input []) is
+    help false is = refl
+
 told_of_kept : (known : Option (List ℕ)) (action : Action) (kept bytes : List ℕ) (e : ToolFault) (line : List ℕ) → IsKept action kept bytes e → IsAnswerLine {V = Bool} known action kept (Err e) line → IsAnswerLine {V = Bool} known action bytes (Err e) line
 told_of_kept known (Entry e) kept bytes (fault.Entry r) line same is = refused_told known e r kept bytes line is
-told_of_kept known action kept bytes e line same is = subst (λ (x : List ℕ). IsAnswerLine {V = Bool} known action x (Err e) line) same is
+told_of_kept known (Entry e) kept bytes why line same is = subst (λ (x : List ℕ). IsAnswerLine {V = Bool} known (Entry e) x (Err why) line) same is
+told_of_kept (Some front) (Capability c) kept bytes (fault.Cap r) line same (near, are, (advice, advised, says)) =
+    (near, are, (advice, advised ∙ ap (λ t. text_advice t r) (ap kept_of same ∙ kept_twice bytes), says))
+told_of_kept (Some front) (Source c) kept bytes (fault.Cap r) line same (near, are, (advice, advised, says)) =
+    (near, are, (advice, advised ∙ ap (λ t. advice_if (read_text (text_of (notation_in t))) r) (ap kept_of same ∙ kept_twice bytes), says))
+told_of_kept (Some front) (Capability c) kept bytes why line same is = is
+told_of_kept (Some front) (Source c) kept bytes why line same is = is
+told_of_kept (Some front) (Difference d) kept bytes why line same is = is
+told_of_kept None (Capability c) kept bytes why line same is = is
+told_of_kept None (Source c) kept bytes why line same is = is
+told_of_kept None (Difference d) kept bytes why line same is = is
 
 -- what is held says no less of an output than what is kept of an entry
 pub held_output : (action : Action) (supply : Supply) (kept input : List ℕ) (passed : Bool) (out : List ℕ) → HasOutput action (held_of action kept input) supply passed out → HasOutput action kept supply passed out

@@ -1,5 +1,5 @@
 -- What comes after the line on a fault, for people: the string, a caret below the place, and a sentence.
-use Rattle.std.specs.Prelude.{◌≡◌, ◌⊎◌, ◌&&◌, ℕ, Bool, true, false, not, List, [], ◌++◌, Option, Some, None, is_some, Result, Ok, Err, codes, if◌then◌else◌, length, min, nat_le, option_and_then, replicate}
+use Rattle.std.specs.Prelude.{◌≡◌, ◌⊎◌, ◌&&◌, ℕ, Bool, true, false, not, List, [], ◌++◌, Option, Some, None, is_some, Result, Ok, Err, codes, if◌then◌else◌, length, min, nat_le, nat_lt, option_and_then, replicate}
 use Rattle.ti_base.specs.Letters.{letter}
 use Rattle.ti_cap.specs.declared.language.CapRefused.{CapRefused}
 use Rattle.ti_escape.specs.Notation.{column, notation}
@@ -29,15 +29,23 @@ use Rattle.ti_words.specs.Value.{EntryValue}
 abbrev pub most_columns : ℕ
 most_columns = 256
 
+-- the most characters of an input that are kept for the advice: four for each column, and a newline
+abbrev pub most_kept : ℕ
+most_kept = 1025
+
+-- an input as it is kept; of a longer one no string would be shown, and nothing is kept
+abbrev pub kept_of : List ℕ → List ℕ
+kept_of input = if nat_le (length input) most_kept then input else []
+
 -- a caret below the byte of a string at a place
 abbrev pub caret_line : List ℕ → ℕ → List ℕ
 caret_line text place =
     indented (replicate (min (column text place) most_columns) (letter (codes " ")) ++ codes "^")
 
--- a string in the notation, and a caret below its byte at a place; nothing of a long one
+-- a string in the notation, and a caret below its byte at a place; nothing of a long one, or of none
 abbrev pub pointed : List ℕ → ℕ → List ℕ
 pointed text place =
-    if nat_le (length (notation text)) most_columns
+    if nat_lt 0 (length text) && nat_le (length (notation text)) most_columns
     then indented (notation text) ++ caret_line text place
     else []
 
@@ -96,9 +104,9 @@ plain_advice front action e = any_advice front e
 -- ---- the advice
 
 abbrev pub IsAdvice : List ℕ → Action → List ℕ → ToolFault → List ℕ → Type 0
-IsAdvice front (Capability c) input (fault.Cap refused) advice = advice ≡ text_advice input refused
+IsAdvice front (Capability c) input (fault.Cap refused) advice = advice ≡ text_advice (kept_of input) refused
 IsAdvice front (Source c) input (fault.Cap refused) advice =
-    advice ≡ advice_if (read_text (text_of (notation_in input))) refused
+    advice ≡ advice_if (read_text (text_of (notation_in (kept_of input)))) refused
 IsAdvice front (Entry e) input (fault.Cap refused) advice = IsEntryAdvice e input refused advice
 IsAdvice front action input e advice = advice ≡ plain_advice front action e
 

@@ -8,7 +8,7 @@ ghost use Rattle.ti_line.specs.declared.request.CapabilityAction.{CapabilityActi
 ghost use Rattle.ti_line.specs.declared.request.Pair.{Pair};
 ghost use Rattle.ti_escape.specs.Notation.{column as the_column};
 ghost use Rattle.ti_report.specs.Blocks.{indented as the_indented};
-ghost use Rattle.ti_tool.specs.Advice.{IsAdvised, IsEntryAdvice, IsNamed, advice_if as the_advice_if, any_advice, caret_line, hints, is_other_name as the_is_other_name, name_advice as the_name_advice, most_columns, pointed as the_pointed, read_text, refusal_advice as the_refusal_advice, text_advice as the_text_advice};
+ghost use Rattle.ti_tool.specs.Advice.{IsAdvised, IsEntryAdvice, IsNamed, advice_if as the_advice_if, any_advice, caret_line, hints, is_other_name as the_is_other_name, name_advice as the_name_advice, most_columns, most_kept, pointed as the_pointed, read_text, refusal_advice as the_refusal_advice, text_advice as the_text_advice};
 ghost use Rattle.ti_tool.specs.Sentences.{most_sentence};
 ghost use Rattle.ti_tool.specs.Sources.{notation_in, text_of};
 ghost use Rattle.ti_words.specs.Items.{item_value, text_in};
@@ -28,6 +28,9 @@ use ti_words::{Item, Kind, Text};
 
 /// The most columns of a string that is shown.
 const MOST_COLUMNS: usize = 256;
+
+/// The most characters of an input that are kept for the advice: four for each column, and a newline.
+pub const MOST_KEPT: usize = 4 * MOST_COLUMNS + 1;
 
 /// The most bytes of a line with a caret.
 const MOST_CARET: usize = MOST_COLUMNS + 4;
@@ -106,10 +109,13 @@ fn both_lines(shown: &[u8], caret: &[u8]) -> ArrayVec<u8, MOST_POINTED>
     lines
 }
 
-/// A string in the notation, and a caret below its byte at a place; nothing of a long one.
+/// A string in the notation, and a caret below its byte at a place; nothing of a long one, or of none.
 fn pointed(text: &[u8], place: usize) -> ArrayVec<u8, MOST_POINTED>
     ensures { result.items ≡ the_pointed text.now place }
 {
+    if text.is_empty() {
+        return ArrayVec::new();
+    }
     let mut room = [0; MOST_COLUMNS];
     match escape_into(text, &mut room) {
         Some(len) => both_lines(&room[..len], caret_line(text, place).as_slice()),
@@ -260,6 +266,7 @@ pub fn advice_on_entry(
 
 /// Of the fault of a request on a capability.
 pub fn advice_on_capability(has_advice: bool, input: &[u8], fault: &ToolFault) -> Advice
+    requires kept { length input.now ≤ most_kept }
     ensures { (c : CapabilityAction) → IsAdvised (hints has_advice []) (asks.Capability c) input.now fault.now result.items }
 {
     match fault {
@@ -271,6 +278,7 @@ pub fn advice_on_capability(has_advice: bool, input: &[u8], fault: &ToolFault) -
 
 /// Of the fault of a request on the notation of one. The input may change.
 pub fn advice_on_source(has_advice: bool, input: &mut [u8], fault: &ToolFault) -> Advice
+    requires kept { length input.old ≤ most_kept }
     ensures { (c : CapabilityAction) → IsAdvised (hints has_advice []) (asks.Source c) input.old fault.now result.items }
 {
     match fault {

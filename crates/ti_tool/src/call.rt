@@ -2,14 +2,16 @@
 //!
 //! Nothing is written before the whole result is there: after a fault other than `Write` the writer is as it was.
 
-ghost use Rattle.std.specs.Prelude.{◌⊎◌, ◌≡◌, ◌≤◌, [], IfErr, IfOk, MatchResult, length, true};
+ghost use Rattle.std.specs.Prelude.{◌⊎◌, ◌≡◌, [], IfErr, IfOk, MatchResult, true};
 ghost use Rattle.ti_line.specs.declared.request.Action.TheVariants.{Capability, Entry, Source};
+ghost use Rattle.ti_tool.specs.Advice.{kept_of};
 ghost use Rattle.ti_tool.specs.Calls.{DidCheck, IsEnough, IsFailedWrite};
 ghost use Rattle.ti_tool.specs.FileRuns.{IsInput, Supply};
 ghost use Rattle.ti_tool.specs.Results.{Finds, IsAnswer};
 ghost use Rattle.ti_tool.specs.inner.Answered.{HasFault, HasOutput, held_of};
 ghost use Rattle.ti_entry.specs.Reading.{new_reading};
 
+use crate::advice::MOST_KEPT;
 use crate::command::{Answer, answer_of_capability, answer_of_entry, answer_of_source};
 use crate::fault::ToolFault;
 use crate::result::write_result;
@@ -21,16 +23,17 @@ use ti_entry::{EntryReader, read_from};
 use ti_line::{Action, CapabilityAction, EntryAction};
 use ti_report::Trials;
 
-/// What a line on a fault may show of an input: a capability, or its notation.
-pub type InputText = ArrayVec<u8, MOST_CHARACTERS>;
+/// An input, a capability or its notation, as it is kept for the advice on a fault.
+pub type InputText = ArrayVec<u8, MOST_KEPT>;
 
-/// Keeps an input.
+/// Keeps an input, if it is short.
 fn keep(text: &mut InputText, input: &[u8])
-    requires none { text.old.items ≡ [] }
-    requires fits { length input.now ≤ MOST_CHARACTERS }
-    ensures { text.new.items ≡ input.now }
+    requires { text.old.items ≡ [] }
+    ensures { text.new.items ≡ kept_of input.now }
 {
-    let _ = text.try_extend_from_slice(input);
+    if input.len() <= MOST_KEPT {
+        let _ = text.try_extend_from_slice(input);
+    }
 }
 
 /// The output of a request on what the reader gives as one capability, each byte of it as it stands. At most 32768 bytes of the
@@ -76,7 +79,7 @@ fn answer_of_notation<A: Allocator + Copy, R: Read>(
         (λ a. HasOutput (Source action.now) text.new.items supply a.passed a.bytes.items)
         (HasFault (Source action.now) text.new.items supply) }
 {
-    let mut input: InputText = ArrayVec::new();
+    let mut input: ArrayVec<u8, MOST_CHARACTERS> = ArrayVec::new();
     read_up_to(&mut input, reader)?;
     keep(text, input.as_slice());
     let bytes = answer_of_source(

@@ -1,10 +1,10 @@
 //! The program over its words, a reader and two writers.
 
-ghost use Rattle.std.specs.Prelude.{◌≡◌, ◌≢◌, ◌≤◌, ◌⊎◌, [], Bool, Err, List, None, map};
+ghost use Rattle.std.specs.Prelude.{◌≡◌, ◌≢◌, ◌≤◌, ◌⊎◌, [], Bool, Err, List, None, length, map};
 ghost use Rattle.ti_line.specs.CommandLine.{AreRead, Command, Reads, Row, files_of};
 ghost use Rattle.ti_line.specs.Requests.{texts_of};
 ghost use Rattle.ti_line.specs.declared.request.Action.TheVariants.{Entry};
-ghost use Rattle.ti_tool.specs.Advice.{hints};
+ghost use Rattle.ti_tool.specs.Advice.{hints, most_kept};
 ghost use Rattle.ti_tool.specs.FaultLines.{AreTold, AreToldFor, IsAnswerLine};
 ghost use Rattle.ti_tool.specs.FileRuns.{RanInput};
 ghost use Rattle.ti_tool.specs.Runs.{DidLine, DidNoLine, EndsWords, HasNoSummary, MayHaveWritten, RanRequest, no_terminals};
@@ -92,6 +92,7 @@ fn answer_line<A: Allocator + Copy>(
     input: &mut [u8],
     fault: &ToolFault,
 ) -> AdvisedLine
+    requires { length input.old ≤ most_kept }
     ensures { IsAnswerLine {V = Bool} (hints has_advice []) action.now (held_of action.now kept.now input.old)
         (Err fault.now) result.items }
 {

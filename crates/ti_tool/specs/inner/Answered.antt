@@ -4,6 +4,7 @@ use Rattle.ti_line.specs.declared.request.Action.{Action}
 use Rattle.ti_line.specs.declared.request.Action.TheVariants.{Entry}
 use Rattle.ti_tool.specs.declared.fault.ToolFault.{ToolFault}
 use Rattle.ti_tool.specs.declared.fault.ToolFault.TheVariants as fault
+use Rattle.ti_tool.specs.Advice.{kept_of}
 use Rattle.ti_tool.specs.Calls.{FailsAsDue}
 use Rattle.ti_tool.specs.FileRuns.{Contents, Supply}
 use Rattle.ti_tool.specs.Results.{IsAnswer}
@@ -24,10 +25,11 @@ HasOutput action kept (Contents bytes) passed out =
     IsAnswer action passed bytes (Ok out) × KeepsEntry action kept bytes
 HasOutput action kept _ passed out = ⊥
 
--- what is kept for the line on a fault is what was read, but of a refused entry
+-- what is kept for the line on a fault: the entry that was read, but of a refused one, or the input if it is short
 abbrev pub IsKept : Action → List ℕ → List ℕ → ToolFault → Type 0
 IsKept (Entry e) kept bytes (fault.Entry refused) = Unit {0}
-IsKept action kept bytes e = kept ≡ bytes
+IsKept (Entry e) kept bytes why = kept ≡ bytes
+IsKept action kept bytes why = kept ≡ kept_of bytes
 
 -- a fault is that of what was read, or of reading
 abbrev pub HasFault : Action → List ℕ → Supply → ToolFault → Type 0
