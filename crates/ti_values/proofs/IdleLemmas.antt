@@ -1,29 +1,25 @@
 -- A text without a byte that a control function with an effect needs sends no such function.
-use Rattle.std.proofs.Common.{◌≡◌, ◌∙◌, ◌<◌, ◌≤◌, ◌⊎◌, inl, inr, ◌+◌, ◌-◌, ◌%◌, ◌/◌, ℕ, zero, suc, ℤ, pos, negsuc, Bool, true, false, not, ◌&&◌, ◌||◌, cond, List, [], ◌∷◌, ◌++◌, Option, Some, None, ap, arith, drop, length, map, nat_eq, nat_le, nat_lt, refl, replicate, subst, sym, take, true≢false}
+use Rattle.std.proofs.Common.{◌≡◌, ◌∙◌, ◌<◌, ◌⊎◌, inl, inr, ◌+◌, ◌-◌, ◌%◌, ◌/◌, ℕ, zero, suc, ℤ, pos, negsuc, Bool, true, false, not, ◌||◌, cond, List, [], ◌∷◌, ◌++◌, Option, Some, None, ap, arith, drop, length, map, nat_eq, nat_lt, refl, replicate, subst, sym, take, true≢false}
 use Rattle.std.specs.Prelude.{codes, ⊤}
-use Rattle.std.specs.List.{list_all, list_any, prefix_len}
+use Rattle.std.specs.List.{list_all, prefix_len}
 use Rattle.std.specs.Fmt.{digit_glyph, digits, digits_onto}
 use Rattle.std.proofs.lemmas.Bool.{and_from, and_parts}
 use Rattle.std.proofs.lemmas.Bool.Decides.{nat_tests}
 use Rattle.std.proofs.lemmas.List.Folds.{list_all-append}
 use Rattle.std.proofs.Math.Seq.{drop-append_seam, drop-length}
-use Rattle.ti_base.specs.Letters.{letter}
-use Rattle.ti_control.specs.Capabilities.{may_stand}
-use Rattle.ti_control.specs.Cuts.{body_len, broken_cut, is_carried_out, is_intermediate, cut, cut_of, escape_with, front_cut, introducer_more, sequence_with}
-use Rattle.ti_control.specs.FunctionEffects.{effect_by_form, escape_after, escape_by, escape_effect, has_enquiry, is_enquiry, is_open, main_effect, on_ecma}
-use Rattle.ti_control.specs.Functions.{Function, front_function, function_of, functions, functions_from}
+use Rattle.ti_control.specs.Cuts.{body_len, broken_cut, is_carried_out, is_intermediate, cut, cut_of, front_cut, introducer_more}
+use Rattle.ti_control.specs.FunctionEffects.{escape_after, escape_effect, has_enquiry, is_enquiry, is_open, main_effect, on_ecma}
+use Rattle.ti_control.specs.Functions.{Function, front_function, function_of, functions_from}
 use Rattle.ti_control.specs.Misplaced.{Place, misplaced_effect}
-use Rattle.ti_control.specs.Openings.{one_byte, opened_after, opened_by, opened_by_letter, opening_at, opening_by, opening_of}
+use Rattle.ti_control.specs.Openings.{opened_after, opened_by, opening_at, opening_by, opening_of}
 use Rattle.ti_control.specs.SentBytes.{code_of, front_code, is_between, starts_between}
 use Rattle.ti_control.specs.SequenceEffects.{effect_if, effect_with, ended_effect, keys_effect, sequence_effect, without}
 use Rattle.ti_control.specs.Sequences.{final_byte, last_intermediate, mark_at, mark_of}
 use Rattle.ti_control.specs.declared.cut.Cut.{Cut}
-use Rattle.ti_control.specs.declared.cut.Form.{Form}
 use Rattle.ti_control.specs.declared.cut.Form.TheVariants as form
 use Rattle.ti_control.specs.declared.cut.Reading.{Reading}
 use Rattle.ti_control.specs.declared.cut.Reading.TheVariants as readings
 use Rattle.ti_control.specs.declared.effect.Effect.{Effect}
-use Rattle.ti_control.specs.declared.effect.Effect.TheVariants.{Answer}
 use Rattle.ti_control.specs.declared.opening.Opening.{Opening}
 use Rattle.ti_control.specs.declared.opening.Opening.TheVariants as opens
 use Rattle.ti_control.specs.declared.sent_byte.SentByte.{SentByte}
@@ -44,21 +40,21 @@ use Rattle.ti_cap.specs.declared.mode.Mode.{Mode}
 use Rattle.ti_cap.specs.declared.mode.Mode.TheVariants as modes
 use Rattle.ti_expand.specs.Effect.{char_byte, print_for}
 use Rattle.ti_expand.specs.Meaning.{tests_zero}
-use Rattle.ti_expand.specs.Printed.{amount, after_zeros, digits_of, fill, fills_with_zeros, front_for, magnitude, print_of_number, sign, significant, with_front, with_zeros}
+use Rattle.ti_expand.specs.Printed.{amount, fill, fills_with_zeros, front_for, magnitude, sign, significant, with_front, with_zeros}
 use Rattle.ti_expand.specs.State.{State, number_on, start}
 use Rattle.ti_expand.specs.Steps.{meet, step_state}
 use Rattle.ti_expand.specs.declared.values.Value.{Value}
 use Rattle.ti_control.specs.declared.sent_byte.SentByte.TheVariants.{Data}
-use Rattle.ti_values.specs.Arms.{AreArms, WritesFrom, all_avoid, arm_bytes, avoids, constant_of, is_active, placed_at}
-use Rattle.ti_values.specs.Controls.{Found, counted, first_everywhere, first_steady, found_among, is_everywhere, found_as, found_by, found_in, or_else, sent_of}
+use Rattle.ti_values.specs.Arms.{WritesFrom, all_avoid, arm_bytes, avoids, constant_of, is_active, placed_at}
+use Rattle.ti_values.specs.Controls.{counted, first_everywhere, first_steady, found_among, is_everywhere, found_as, found_by, found_in, or_else, sent_of}
 use Rattle.ti_values.specs.Idle.{IdlePlainSendsNothing, IdleSendsNothing, IsIdle, is_idle_but}
 use Rattle.ti_values.specs.Negative.{is_signed}
 use Rattle.ti_values.specs.Outputs.{AreArmsFound, AreOutputs}
-use Rattle.ti_values.specs.Samples.{parameters_for}
 use Rattle.ti_values.specs.Sent.{fresh}
 use Rattle.ti_values.specs.declared.samples.Sample.{Sample}
 use Rattle.ti_values.specs.SentBytes.{AreSentBytes, SendsFrom, added, ends_mark, from_start, is_constant, is_marked, origin, placed, placed_all, plain_bytes, plain_from, printed_as, unmarked, unmarked_from}
 use Rattle.ti_values.specs.declared.placed.PlacedByte.{PlacedByte}
+use Rattle.ti_values.proofs.UnlentLemmas.{some_parameters}
 
 -- ---- what stands on one side of a test
 
@@ -661,8 +657,9 @@ sent_there text parameters formed =
 pub idle_outputs : (place : Place) (text : List ℕ) (samples : List Sample) → IsIdle text true → AreOutputs place text samples (map (λ sample. []) samples)
 idle_outputs place text [] idle = refl
 idle_outputs place text (sample ∷ samples) idle =
-    let (sent, sends) = sent_there text (parameters_for sample) idle.tree in
-    ((sent, sends, sym (idle_sends_nothing text place (parameters_for sample) sent idle sends)), idle_outputs place text samples idle)
+    let (parameters, are) = some_parameters sample in
+    let (sent, sends) = sent_there text parameters idle.tree in
+    ((parameters, sent, are, sends, sym (idle_sends_nothing text place parameters sent idle sends)), idle_outputs place text samples idle)
 
 -- ---- and where nothing is found, nothing counts
 

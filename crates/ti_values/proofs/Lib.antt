@@ -15,3 +15,4 @@ pub mod SameLemmas
 pub mod SentBytesLemmas
 pub mod SentLemmas
 pub mod ShownLemmas
+pub mod UnlentLemmas

@@ -1,24 +1,27 @@
 -- What is found in what a text sends is one.
-use Rattle.std.proofs.Common.{◌≡◌, ◌∙◌, inl, inr, ℤ, ℕ, Bool, true, false, List, [], ◌∷◌, ◌++◌, ap, length, subst, sym}
+use Rattle.std.proofs.Common.{◌≡◌, ◌∙◌, inl, inr, ℤ, ℕ, Bool, false, List, [], ◌∷◌, ◌++◌, ap, length, map, subst, sym}
 use Rattle.std.specs.Prelude.{Option, Some, None}
 use Rattle.ti_cap.specs.declared.language.Token.{Token}
 use Rattle.ti_cap.specs.declared.mode.Mode.{Mode}
+use Rattle.ti_cap.specs.declared.mode.Mode.TheVariants.{Run}
 use Rattle.ti_cap.specs.Capability.{Spot, Takes}
 use Rattle.ti_cap.specs.Pass.{next_mode}
+use Rattle.ti_cap.specs.Tree.{tokens}
 use Rattle.ti_cap.proofs.WrittenLemmas.{Same, one_form}
 use Rattle.ti_control.specs.Misplaced.{Place}
 use Rattle.ti_expand.specs.declared.values.Value.{Value}
 use Rattle.ti_expand.specs.Meaning.{tests_zero}
-use Rattle.ti_expand.specs.State.{State}
+use Rattle.ti_expand.specs.State.{State, start}
 use Rattle.ti_expand.specs.Steps.{step_state}
 use Rattle.ti_values.specs.Arms.{AreArms, WritesFrom, arm_bytes, constant_of, placed_at}
 use Rattle.ti_values.specs.Controls.{Found, found_in}
 use Rattle.ti_values.specs.Outputs.{AreArmsFound, AreOutputs, AreSamples, IsOutput, IsTriedOver, samples_of}
-use Rattle.ti_values.specs.Samples.{parameters_for}
-use Rattle.ti_values.specs.SentBytes.{AreSentBytes, SendsFrom, added, is_constant, placed_all, unmarked}
+use Rattle.ti_values.specs.Sent.{fresh}
+use Rattle.ti_values.specs.SentBytes.{AreSentBytes, SendsFrom, added, from_start, is_constant, placed_all, unmarked}
 use Rattle.ti_values.specs.declared.placed.PlacedByte.{PlacedByte}
 use Rattle.ti_values.specs.declared.range.Range.{Range}
 use Rattle.ti_values.specs.declared.samples.Sample.{Sample}
+use Rattle.ti_values.proofs.UnlentLemmas.{alike_parameters, unlent, sends_unlent}
 
 one_next : (token : Token) (spot next end : Spot) → Takes token spot next → Takes token spot end → next ≡ end
 one_next token spot next end (s, spelled, left, taken) (u, spells, rest, gone) =
@@ -33,14 +36,21 @@ one_sends_from (t ∷ ks) spot m s c sent other (next, more, takes, sends, is) (
     let later : more ≡ rest = one_sends_from ks next (next_mode m t (tests_zero s)) (step_state m t s) (is_constant t) more rest sends (subst S (sym (one_next t spot next end takes goes)) so) in
     is ∙ ap (λ l. placed_all c t (length spot.taken) (added s (step_state m t s)) ++ l) later ∙ sym same
 
-one_sent_bytes : (text : List ℕ) (parameters : List Value) (sent other : List PlacedByte) → AreSentBytes text parameters sent → AreSentBytes text parameters other → sent ≡ other
-one_sent_bytes text parameters sent other (marked, sends, is) (alike, also, same) =
+one_sent_bytes : (text : List ℕ) (parameters others : List Value) (sent other : List PlacedByte) → map unlent parameters ≡ map unlent others
+    → AreSentBytes text parameters sent → AreSentBytes text others other → sent ≡ other
+one_sent_bytes text parameters others sent other alike (marked, sends, is) (again, also, same) =
     let t = sends.tree.tree in
     let w = sends.tree.writes in
-    is ∙ ap unmarked (one_sends_from _ _ _ _ _ marked alike (sends.sends t w) (also.sends t w)) ∙ sym same
+    let S : List Value → Type 0 = λ vs. SendsFrom (from_start text) Run (start fresh vs) false (tokens t) again in
+    is
+    ∙ ap unmarked
+    (one_sends_from _ _ _ _ _ marked again (sends_unlent _ _ _ (start fresh parameters) _ marked (sends.sends t w))
+    (subst S (sym alike) (sends_unlent _ _ _ (start fresh others) _ again (also.sends t w))))
+    ∙ sym same
 
 one_output : (place : Place) (text : List ℕ) (sample : Sample) (one other : List Found) → IsOutput place text sample one → IsOutput place text sample other → one ≡ other
-one_output place text sample one other (sent, sends, is) (alike, also, same) = is ∙ ap (found_in place) (one_sent_bytes text (parameters_for sample) sent alike sends also) ∙ sym same
+one_output place text sample one other (parameters, sent, are, sends, is) (others, again, so, also, same) =
+    is ∙ ap (found_in place) (one_sent_bytes text parameters others sent again (alike_parameters sample parameters others are so) sends also) ∙ sym same
 
 pub one_outputs : (place : Place) (text : List ℕ) (samples : List Sample) (all others : List (List Found)) → AreOutputs place text samples all → AreOutputs place text samples others → all ≡ others
 one_outputs place text [] all others p q = p ∙ sym q

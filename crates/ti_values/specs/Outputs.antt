@@ -1,9 +1,10 @@
 -- The control functions that are found in what a text sends.
 use Rattle.std.specs.Prelude.{◌≡◌, ◌⊎◌, ℕ, List, [], ◌∷◌, Option, Some, None}
 use Rattle.ti_control.specs.Misplaced.{Place}
+use Rattle.ti_expand.specs.declared.values.Value.{Value}
 use Rattle.ti_values.specs.Arms.{AreArms}
 use Rattle.ti_values.specs.Controls.{Found, found_in}
-use Rattle.ti_values.specs.Samples.{few_samples, parameters_for, samples_over}
+use Rattle.ti_values.specs.Samples.{AreParameters, few_samples, samples_over}
 use Rattle.ti_values.specs.Sent.{IsShort}
 use Rattle.ti_values.specs.SentBytes.{AreSentBytes, plain_bytes, unmarked}
 use Rattle.ti_values.specs.declared.placed.PlacedByte.{PlacedByte}
@@ -28,7 +29,8 @@ AreSamples text range samples = (over : Option Range) × IsTriedOver text range 
 -- those in what it sends for a sample, and for each of some samples
 abbrev pub IsOutput : Place → List ℕ → Sample → List Found → Type 0
 IsOutput place text sample output =
-    (sent : List PlacedByte) × AreSentBytes text (parameters_for sample) sent × (output ≡ found_in place sent)
+    (parameters : List Value) × (sent : List PlacedByte) × AreParameters sample parameters × AreSentBytes text parameters sent
+    × (output ≡ found_in place sent)
 
 abbrev pub AreOutputs : Place → List ℕ → List Sample → List (List Found) → Type 0
 AreOutputs place text [] outputs = outputs ≡ []

@@ -114,7 +114,7 @@ fn push_all<A: Allocator>(
     Ok(())
 }
 
-/// What a capability sends for nine parameters, with its padding marks. The variables are fresh.
+/// What a capability sends for nine parameters, whose texts have one byte at most, with its padding marks. The variables are fresh.
 fn marked_for<A: Allocator + Copy>(
     alloc: A,
     capability: &Capability<'_>,
@@ -122,7 +122,7 @@ fn marked_for<A: Allocator + Copy>(
 ) -> Result<Vec<PlacedByte, A>, AllocError>
     ensures { IfOk result (λ sent. SendsBytes capability.now parameters.now sent.items) }
 {
-    let bound = capability.bound(0) as usize;
+    let bound = capability.bound(1) as usize;
     let mut vars = Vars::new();
     let mut stack = [Value::Num(0); MOST_VALUES];
     let mut room = Vec::from_elem(alloc, 0, bound)?;
@@ -226,7 +226,7 @@ pub fn without_padding<A: Allocator + Copy>(
 ///
 /// # Errors
 ///
-/// Memory was refused, or a text among the parameters needs more room than numbers do.
+/// Memory was refused, or a text among the parameters has more than one byte.
 pub fn sent_bytes<A: Allocator + Copy>(
     alloc: A,
     capability: &Capability<'_>,

@@ -1,7 +1,7 @@
 //! The parameters for which it is looked at what a text sends.
 
 ghost use Rattle.std.specs.Prelude.{◌≡◌, ◌++◌, IfOk, OnOk, map};
-ghost use Rattle.ti_values.specs.Samples.{few_samples, parameters_for, samples_for, samples_over};
+ghost use Rattle.ti_values.specs.Samples.{AreParameters, few_samples, samples_for, samples_over};
 
 use crate::range::{Range, values_of};
 use crate::tried::Tried;
@@ -15,23 +15,26 @@ pub enum Sample {
     Try(Tried),
     /// Nine times the same number.
     Same(u16),
+    /// Nine times the text `a`.
+    Letter,
 }
 
 impl Sample {
     /// All nine parameters.
     pub fn parameters(self) -> [Value<'static>; 9]
-        ensures all { result ≡ parameters_for self }
+        ensures all { AreParameters self result }
     {
         match self {
             Sample::Try(tried) => tried.parameters(),
             Sample::Same(number) => [Value::Num(i32::from(number)); 9],
+            Sample::Letter => [Value::Text(b"a"); 9],
         }
     }
 }
 
-/// The samples for a text that is tried over no values: numbers that are small, and one that has eight bits.
+/// The samples for a text that is tried over no values: numbers that are small, one that has eight bits, and a text.
 #[tactic(auto, unfolding(crate::specs::Samples::few_samples))]
-pub fn few_samples() -> [Sample; 4]
+pub fn few_samples() -> [Sample; 5]
     ensures all { result ≡ few_samples }
 {
     [
@@ -39,6 +42,7 @@ pub fn few_samples() -> [Sample; 4]
         Sample::Same(1),
         Sample::Same(2),
         Sample::Same(255),
+        Sample::Letter,
     ]
 }
 

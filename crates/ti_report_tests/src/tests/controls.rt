@@ -63,6 +63,7 @@ mistakes | scp=\E[%p1%dn => answer: CSI 0n, a request for the cursor's place or 
 mistakes | scp=\E[%p1%dt => -
 mistakes | scp=\E[%p1%dt\E[6n => answer: CSI 6n, a request for the cursor's place or a status
 mistakes | setaf=%?%p1%{300}%=%t\E]52;c;YQ==^G%;%p1%d => -
+mistakes | pln=%?%p2%l%t\E]52;c;YQ==^G%;%p1%d => clipboard: OSC 52;c;YQ==, a text for the clipboard
 untrusted | setaf=%?%p1%{300}%=%t\E]52;c;YQ==^G%;%p1%d => clipboard: OSC 52;c;YQ==, a text for the clipboard
 untrusted | setaf=%?%p1%{300}%=%t\E]5%e\E[1m%;2;c;YQ==^G%p1%d => palette: OSC 5, a change of colors
 untrusted | setaf=%?%p1%{300}%=%t\E]52;c;%;YQ==^G%p1%d => clipboard: OSC 52;c;YQ==, a text for the clipboard
