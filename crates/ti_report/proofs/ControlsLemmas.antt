@@ -3,7 +3,6 @@ use Rattle.std.proofs.Common.{◌≡◌, ◌∙◌, ◌++◌, ℕ, Bool, true, f
 use Rattle.std.specs.List.{flat_map}
 use Rattle.std.specs.Prelude.{Option}
 use Rattle.ti_control.specs.Effects.{effects}
-use Rattle.ti_control.specs.declared.effect.Effect.{Effect}
 use Rattle.ti_control.specs.Misplaced.{Place}
 use Rattle.ti_values.specs.Controls.{Found}
 use Rattle.ti_values.specs.Idle.{IsIdle}
@@ -12,7 +11,6 @@ use Rattle.ti_values.proofs.IdleLemmas.{idle_arms_found, idle_outputs, none_coun
 use Rattle.ti_values.specs.declared.range.Range.{Range}
 use Rattle.ti_values.specs.declared.samples.Sample.{Sample}
 use Rattle.ti_report.specs.Controls.{AreCapabilityControls, AreControlsAt, ArePlainFound, Terminal, control_remarks, on_counted, on_effect, place_in, range_in}
-use Rattle.ti_report.specs.Remarks.{Remark}
 
 pub controls_are : (t : Terminal) (name text capability : List ℕ) (place : Place) (range : Option Range) (samples lent : List Sample) (outputs os : List (List Found)) (plain ps : List Found)
     → capability ≡ text → place ≡ place_in t name → range ≡ range_in t.rows name → lent ≡ samples → os ≡ outputs → ps ≡ plain

@@ -1,15 +1,54 @@
 -- Worked rows, from terminfo(5), term(5) and the entries of ncurses.
-use Rattle.std.proofs.Common.{◌≡◌, [], ◌∷◌, true, false, refl, None, Some}
+use Rattle.std.proofs.Common.{◌≡◌, ℕ, Bool, [], ◌∷◌, true, false, refl, None, Some, negsuc}
 use Rattle.std.specs.Prelude.{codes}
+use Rattle.std.specs.Fmt.{digits}
+use Rattle.serde_json.specs.Data.{number, unsigned}
+use Rattle.ti_control.specs.Effects.{effects}
+use Rattle.ti_control.specs.Entries.{starts_introducer}
+use Rattle.ti_control.specs.declared.effect.Effect.TheVariants.{Answer}
+use Rattle.ti_escape.specs.declared.color.Color.TheVariants.{Never}
 use Rattle.ti_lint.specs.declared.level.Level.TheVariants.{Errors, All}
-use Rattle.ti_report.specs.Actions.{is_tabset}
-use Rattle.ti_report.specs.Blocks.{remedy}
-use Rattle.ti_report.specs.NameBytes.{first_empty, parted}
-use Rattle.ti_report.specs.Remarks.{NoEvidence, OfText, Remark}
-use Rattle.ti_report.specs.Reported.{reported}
-use Rattle.ti_report.specs.declared.finding.Finding.{Finding}
-use Rattle.ti_report.specs.declared.finding.Finding.TheVariants.{AlikeKeys, Runs, SameOutput, Token}
 use Rattle.ti_lint.specs.declared.token_finding.TokenFinding.TheVariants.{ParameterRange, RepeatedIncrement}
+use Rattle.ti_names.specs.NameLists.{all_flags, all_numbers, all_texts}
+use Rattle.ti_names.specs.declared.class.Class.TheVariants as classes
+use Rattle.ti_names.specs.declared.class.Class.TheVariants.{List as ListClass, Plain}
+use Rattle.ti_pad.specs.Delays.{total_delay}
+use Rattle.ti_report.specs.Actions.{is_tabset, natural, on_command, on_file}
+use Rattle.ti_report.specs.Bases.{bases_differ}
+use Rattle.ti_report.specs.Blocks.{caret_line, carets, remedy}
+use Rattle.ti_report.specs.Constants.{IsTestsReport}
+use Rattle.ti_report.specs.Controls.{control_remarks, has_introducer, on_counted, range_in}
+use Rattle.ti_report.specs.Coverages.{AreCounts, IsCount}
+use Rattle.ti_report.specs.Findings.{finding_row, finding_word}
+use Rattle.ti_report.specs.Keys.{Key, is_first_part, on_keys, on_two}
+use Rattle.ti_report.specs.Lines.{AreAll, InTurn}
+use Rattle.ti_report.specs.Marks.{first_place}
+use Rattle.ti_report.specs.NameBytes.{first_empty, parted}
+use Rattle.ti_report.specs.Names.{on_again, on_name, on_new}
+use Rattle.ti_report.specs.Objects.{about_objects, place_number}
+use Rattle.ti_report.specs.Origins.{Motion, origin_remarks}
+use Rattle.ti_report.specs.Pairs.{equal_pair}
+use Rattle.ti_report.specs.Remarks.{Attribute, For, Last, NoEvidence, OfEntry, OfText, OfTwo, Remark, on_values, placed, unmarked, unplaced}
+use Rattle.ti_report.specs.Reported.{reported}
+use Rattle.ti_report.specs.Reports.{IsUseReport}
+use Rattle.ti_report.specs.Sentences.{called_words, meaning, parameter_words, value_words}
+use Rattle.ti_report.specs.Sequences.{IsSequenceIn}
+use Rattle.ti_report.specs.Subjects.{known_as}
+use Rattle.ti_report.specs.Texts.{delay_remarks, empty_key, half_paired, may_leave_out, usage_of}
+use Rattle.ti_report.specs.Values.{Trial, ignored_if, remark_of, text_named, tried_at}
+use Rattle.ti_report.specs.Whole.{has}
+use Rattle.ti_report.specs.declared.finding.Finding.TheVariants.{AlikeKeys, EmptyKey, EmptyOutput, EqualPair, HalfPaired, IgnoredAttribute, KeyPrefix, LongDelay, OriginDiffers, Reads, RepeatedAlias, RepeatedName, Runs, SameOutput, Token}
+use Rattle.ti_report.specs.declared.finding.Finding.{Finding}
+use Rattle.ti_report.specs.declared.names.NameKind.TheVariants.{Alias, Own}
+use Rattle.ti_values.specs.Controls.{Found}
+use Rattle.ti_values.specs.declared.axes.Axes.TheVariants.{Both, Line}
+use Rattle.ti_values.specs.declared.range.Range.TheVariants.{Numbers}
+use Rattle.ti_values.specs.declared.tried.Tried.TheVariants.{Attributes, Two}
+use Rattle.ti_words.specs.Items.{ExtendedSubject, StandardSubject}
+use Rattle.ti_words.specs.Texts.{AbsentText, TextOf}
+use Rattle.ti_words.specs.Value.{EntryValue, bare, no_values}
+use Rattle.ti_words.specs.declared.Kind.TheVariants as kinds
+use Rattle.ti_words.specs.declared.Width.TheVariants.{Legacy}
 
 -- files that `if` and `rf` name
 pub files : (is_tabset (codes "/usr/share/tabset/vt100") ≡ true) × (is_tabset (codes "/usr/share/tabset/../x") ≡ false) × (is_tabset (codes "/dev/zero") ≡ false)
@@ -35,3 +74,131 @@ reports = (refl, refl)
 -- what to do about a second `%i`, as in `csr` of vt100-s, and about a command
 pub remedies : (remedy (Token RepeatedIncrement) ≡ codes "do: write %{1}%+ in place of the second %i") × (remedy Runs ≡ codes "do: leave it out")
 remedies = (refl, refl)
+
+-- what programs do with `iprog`, `if` and `rf`, and a number below 0
+pub actions : (on_command (codes "iprog") AbsentText ≡ []) × (on_command (codes "iprog") (TextOf (codes "tset")) ≡ on_values (codes "iprog") (codes "tset") Runs NoEvidence)
+    × (on_file (codes "if") (TextOf (codes "/usr/share/tabset/vt100")) ≡ []) × (on_file (codes "rf") (TextOf (codes "/dev/zero")) ≡ on_values (codes "rf") (codes "/dev/zero") Reads NoEvidence)
+    × (natural (negsuc 0) ≡ 0)
+actions = (refl, refl, refl, refl, refl)
+
+-- ---- whole entries: one with the name `a` alone, and its bytes; and one whose `bel`, the second text, is ^G
+
+abbrev named : EntryValue
+named = bare Legacy (codes "a")
+
+abbrev with_bell : EntryValue
+with_bell = record named { standard = record no_values { texts = AbsentText ∷ TextOf (7 ∷ []) ∷ [] } }
+
+pub bases : (bases_differ [] ≡ false) × (bases_differ (26 ∷ 1 ∷ 2 ∷ 0 ∷ 0 ∷ 0 ∷ 0 ∷ 0 ∷ 0 ∷ 0 ∷ 0 ∷ 0 ∷ 97 ∷ 0 ∷ []) ≡ false)
+bases = (refl, refl)
+
+pub bells : (text_named named (codes "bel") ≡ AbsentText) × (text_named with_bell (codes "bel") ≡ TextOf (7 ∷ [])) × (text_named with_bell (codes "cbt") ≡ AbsentText)
+    × (has with_bell (codes "bel") ≡ true) × (has named (codes "bel") ≡ false)
+unfolding text_named has all_flags all_numbers all_texts
+bells = (refl, refl, refl, refl, refl)
+
+-- ---- remarks: the places of a text, the words of a finding, and sentences of ti-findings(7)
+
+pub carets_below : (carets 0 (codes "a%p1b") (1 ∷ 4 ∷ []) ≡ codes " ^  ^") × (caret_line Never (codes "ab") [] ≡ [])
+carets_below = (refl, refl)
+
+pub places : (first_place starts_introducer (codes "ab") ≡ None) × (first_place starts_introducer (97 ∷ 27 ∷ codes "[m") ≡ Some 1)
+    × (placed [] SameOutput NoEvidence ≡ [])
+places = (refl, refl, refl)
+
+pub words : (finding_word SameOutput ≡ codes "same-output") × ((finding_row AlikeKeys).only_all ≡ true) × ((finding_row SameOutput).hidden_by ≡ codes "parameter-range")
+words = (refl, refl, refl)
+
+pub sentences : (meaning (Token ParameterRange) (Last 2) ≡ codes "%p2 is the last parameter by terminfo(5)") × (meaning EmptyOutput (For (Two 3 5)) ≡ codes "for 3 5 it sends nothing")
+    × (value_words (Attributes 0) ≡ codes "for no attribute") × (value_words (Attributes 5) ≡ codes "for %p1 %p3")
+    × (called_words (codes "CSI") (codes "6n") ≡ codes "CSI 6n") × (called_words [] (5 ∷ []) ≡ codes "^E")
+unfolding parameter_words digits
+sentences = (refl, refl, refl, refl, refl, refl)
+
+pub objects : (about_objects OfEntry ≡ []) × (place_number 3 ≡ number (unsigned 3))
+objects = (refl, refl)
+
+-- ---- keys: `kcuu1` sends the first part of what `kf1` sends
+
+abbrev up : Key
+up = (codes "A", codes "kcuu1")
+
+abbrev first : Key
+first = (codes "AP", codes "kf1")
+
+pub keys : (is_first_part up.0 first.0 ≡ true) × (is_first_part first.0 first.0 ≡ false) × (on_keys (up ∷ first ∷ []) (up ∷ first ∷ []) ≡ on_two up first KeyPrefix)
+    × (on_keys (up ∷ up ∷ []) (up ∷ up ∷ []) ≡ on_two up up AlikeKeys) × (on_keys (first ∷ []) (first ∷ []) ≡ [])
+keys = (refl, refl, refl, refl, refl)
+
+-- ---- pairs, and texts by their use
+
+pub pairs : (equal_pair EqualPair (codes "smso") (codes "rmso") (TextOf (codes "x")) (TextOf (codes "x")) ≡ unmarked (OfTwo (codes "smso") (codes "x") (codes "rmso") (codes "x")) EqualPair NoEvidence)
+    × (equal_pair EqualPair (codes "smso") (codes "rmso") (TextOf []) (TextOf []) ≡ []) × (equal_pair EqualPair (codes "smso") (codes "rmso") (TextOf (codes "x")) AbsentText ≡ [])
+pairs = (refl, refl, refl)
+
+pub uses : (may_leave_out (codes "sgr") ≡ true) × (may_leave_out (codes "cup") ≡ false) × (half_paired true (codes "abc") ≡ unplaced HalfPaired NoEvidence)
+    × (half_paired false (codes "abc") ≡ []) × (empty_key [] ≡ unplaced EmptyKey NoEvidence)
+uses = (refl, refl, refl, refl, refl)
+
+-- a delay of five seconds, and one of five milliseconds
+pub delays : (delay_remarks (codes "a$<5000/>") ≡ placed (1 ∷ []) LongDelay NoEvidence) × (delay_remarks (codes "a$<5>") ≡ [])
+unfolding total_delay
+delays = (refl, refl)
+
+-- a text that is known and there
+pub subjects : (known_as (ExtendedSubject kinds.Text (codes "XM")) None (Some (codes "x")) ≡ [])
+    × (known_as (ExtendedSubject kinds.Text (codes "XM")) (Some Plain) (Some (codes "x")) ≡ record { name = codes "XM"; text = codes "x"; class = Plain; standard = false } ∷ [])
+    × (known_as (StandardSubject kinds.Text 1) (Some Plain) None ≡ [])
+subjects = (refl, refl, refl)
+
+-- an own name and an alias that stand twice, and an alias that does not
+pub repeated : (on_again Own (codes "XM") ≡ on_name (codes "XM") RepeatedName) × (on_again Alias (codes "a") ≡ on_name (codes "a") RepeatedAlias) × (on_new Alias (codes "a") ≡ [])
+repeated = (refl, refl, refl)
+
+-- a text of another terminal, and a key, are not looked at for sequences
+pub sequences : IsSequenceIn false true Plain (codes "bold") (27 ∷ codes "[") [] × IsSequenceIn true true classes.Key (codes "kf1") (27 ∷ codes "[") []
+sequences = (refl, refl)
+
+-- one after another
+pub in_turn : AreAll {X = ℕ} (λ x all. all ≡ x ∷ []) (1 ∷ 2 ∷ []) (1 ∷ 2 ∷ []) × InTurn {Y = ℕ} (λ all. all ≡ 1 ∷ []) (λ all. all ≡ 2 ∷ []) (1 ∷ 2 ∷ [])
+in_turn = ((1 ∷ [], 2 ∷ [], refl, (2 ∷ [], [], refl, refl, refl), refl), (1 ∷ [], 2 ∷ [], refl, refl, refl))
+
+-- no token, and so no test of constants
+pub tests : IsTestsReport [] []
+tests = ([], (refl, refl))
+
+-- an `acsc` of three bytes
+pub uses_reported : IsUseReport (usage_of (record { mask = 0 }) (codes "acsc") ListClass) (codes "acsc") (codes "abc")
+    (on_values (codes "acsc") (codes "abc") HalfPaired NoEvidence)
+uses_reported = (unplaced HalfPaired NoEvidence, refl, refl)
+
+-- ---- values: of an attribute that `sgr` ignores; and how many texts are tried
+
+abbrev trial : Trial
+trial = record { name = codes "sgr"; text = codes "x"; tried = Attributes 0 ∷ Attributes 32 ∷ []; sent = codes "x" ∷ codes "x" ∷ [] }
+
+pub tried : (tried_at trial 1 ≡ Attributes 32) × (ignored_if true trial (codes "bold") 32 ≡ on_values (codes "sgr") (codes "x") IgnoredAttribute (Attribute (codes "bold") 32))
+    × (remark_of trial EmptyOutput (λ k. For (tried_at trial k)) None ≡ [])
+tried = (refl, refl, refl)
+
+pub counts : IsCount AbsentText (Numbers 0 8) 0 × AreCounts named [] 0 0
+counts = (refl, (refl, refl))
+
+-- `cup` beside `vpa` of ncr160vt200pp, and beside `home` of linux
+abbrev cup : Motion
+cup = record { name = codes "cup"; text = codes "c"; sent = 27 ∷ codes "[1;1H" }
+
+pub origins : (origin_remarks cup (codes "vpa") (codes "v") Line (Some (27 ∷ codes "[0d")) ≡ unmarked (OfTwo (codes "cup") (codes "c") (codes "vpa") (codes "v")) OriginDiffers NoEvidence)
+    × (origin_remarks cup (codes "home") (codes "h") Both (Some (27 ∷ codes "[H")) ≡ []) × (origin_remarks cup (codes "vpa") (codes "v") Line None ≡ [])
+origins = (refl, refl, refl)
+
+-- ---- control functions
+
+abbrev request : Bool → Found
+request is_printed = record { effect = Answer; place = 4; printed = is_printed; label = codes "CSI"; content = codes "6n"; purpose = [] }
+
+pub controls : (has_introducer (97 ∷ 27 ∷ codes "[m") ≡ true) × (has_introducer (27 ∷ codes "H") ≡ false)
+    × (range_in ((codes "setaf", Numbers 0 8) ∷ []) (codes "setaf") ≡ Some (Numbers 0 8)) × (range_in ((codes "setaf", Numbers 0 8) ∷ []) (codes "setab") ≡ None)
+    × (control_remarks (codes "bold") (codes "b") ((request false ∷ []) ∷ []) [] ≡ on_counted (codes "bold") (codes "b") (Some (request false)))
+unfolding effects
+controls = (refl, refl, refl, refl, refl)

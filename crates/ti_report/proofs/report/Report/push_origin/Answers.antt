@@ -1,5 +1,5 @@
-use Rattle.std.proofs.Common.{◌≡◌, ◌∙◌, Bool, List, ℕ, [], ap, refl, subst, sym}
-use Rattle.std.specs.Prelude.{Option, Some, option_map}
+use Rattle.std.proofs.Common.{◌≡◌, ◌∙◌, List, ℕ, [], ap, refl, subst, sym}
+use Rattle.std.specs.Prelude.{Some, option_map}
 use Rattle.std.proofs.lemmas.List.{append-nil}
 use Rattle.ti_values.specs.Axes.{numbers_differ}
 use Rattle.ti_words.specs.Texts.{TextOf, TextValue, text_value}
