@@ -181,8 +181,9 @@ pub tried : (tried_at trial 1 ≡ Attributes 32) × (ignored_if true trial (code
     × (remark_of trial EmptyOutput (λ k. For (tried_at trial k)) None ≡ [])
 tried = (refl, refl, refl)
 
-pub counts : IsCount AbsentText (Numbers 0 8) 0 × AreCounts named [] 0 0
-counts = (refl, (refl, refl))
+pub counts : IsCount AbsentText (Numbers 0 8) 0 × AreCounts named ((codes "setaf", Numbers 0 8) ∷ []) 0 0
+unfolding text_named all_flags all_numbers all_texts
+counts = (refl, (0, 0, 0, refl, (refl, refl), refl, refl))
 
 -- `cup` beside `vpa` of ncr160vt200pp, and beside `home` of linux
 abbrev cup : Motion
