@@ -1,12 +1,14 @@
 -- Under `--escape` the results of one of several files are printable lines.
 use Rattle.std.proofs.Common.{◌≡◌, ◌≤◌, ◌==◌, ◌&&◌, ◌∙◌, ◌+◌, ℕ, Bool, true, false, List, [], ◌∷◌, ◌++◌, ap, append_assoc, arith, leb-true, map, refl, subst, sym}
-use Rattle.std.specs.Prelude.{codes, nat_le, nat_lt}
+use Rattle.std.specs.Prelude.{codes, nat_le, nat_lt, if◌then◌else◌}
 use Rattle.std.specs.List.{flat_map, list_all}
 use Rattle.std.proofs.lemmas.Bool.{and_from, eqb-true}
 use Rattle.std.proofs.lemmas.List.{append-nil, length-map}
 use Rattle.ti_escape.specs.Laws.{is_printable}
+use Rattle.ti_escape.specs.Notation.{notation}
 use Rattle.ti_escape.proofs.PrintableLemmas.{is_printable_all}
 use Rattle.ti_json.proofs.TextLemmas.{IsText, both}
+use Rattle.ti_line.specs.CommandLine.{is_minus}
 use Rattle.ti_line.specs.declared.options.NameForm.{NameForm}
 use Rattle.ti_line.specs.declared.options.NameForm.TheVariants as name_forms
 use Rattle.ti_tool.specs.Files.{each_line, shown_file}
@@ -70,7 +72,11 @@ module _ (before : List ℕ) where
 
 file_text : (form : NameForm) (name : List ℕ) → form ≡ name_forms.Notation → IsText (shown_file form name)
 file_text name_forms.Raw name e = absurd (cc (e))
-file_text name_forms.Notation name e = is_printable_all name
+file_text name_forms.Notation name e = text (is_minus name)
+  where
+    text : (minus : Bool) → IsText (if minus then codes "-" else notation name)
+    text true = refl
+    text false = is_printable_all name
 
 pub several_shown : ShowOfSeveralIsPrintable
 several_shown options name input out passed e n (plain, due, is) =

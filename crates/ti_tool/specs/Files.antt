@@ -10,10 +10,10 @@ use Rattle.ti_line.specs.declared.request.EntryAction.TheVariants as of_entry
 use Rattle.ti_tool.specs.Documents.{in_object}
 use Rattle.ti_tool.specs.Results.{IsDueOf}
 
--- the name of a file in a result: as it stands, or in the notation
+-- the name of a file in a result: as it stands, or in the notation; that of standard input stays `-`
 abbrev pub shown_file : NameForm → List ℕ → List ℕ
 shown_file name_forms.Raw name = name
-shown_file name_forms.Notation name = notation name
+shown_file name_forms.Notation name = if is_minus name then codes "-" else notation name
 
 -- lines with something before each of them, from the start of a line or from within one
 abbrev pub each_line : List ℕ → Bool → List ℕ → List ℕ

@@ -42,6 +42,7 @@ fn push_name<A: Allocator>(
 {
     match form {
         NameForm::Raw => out.extend_from_slice(name.as_bytes()),
+        NameForm::Notation if name == "-" => out.extend_from_slice(b"-"),
         NameForm::Notation => push_notation(out, name.as_bytes()),
     }
 }

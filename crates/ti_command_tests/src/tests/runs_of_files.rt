@@ -98,6 +98,8 @@ const ROWS: &str = r#"
 ti show small | file => 0 out format: legacy\nnames: t\nflag bw\nnumber cols 80\ntext bel 07\n
 # the input has another text
 ti show small - | file => 0 out file: small\nformat: legacy\nnames: t\nflag bw\nnumber cols 80\ntext bel 07\nfile: -\nformat: legacy\nnames: t\nflag bw\nnumber cols 80\ntext bel 1b5b3f255b3b303132333435363738395d63\n
+ti show --escape small - | file => 0 out file: small\nformat: legacy\nnames: t\nflag bw\nnumber cols 80\ntext bel \^G\nfile: -\nformat: legacy\nnames: t\nflag bw\nnumber cols 80\ntext bel \\E[?%[;0123456789]c\n
+ti check - small | terminal => 1 out -: text bel fault UnknownEscape at 3\nsmall: text bel ok depth 0 bound 1\n
 # the second time it has nothing left
 ti show - - | file => 3 out file: -\nformat: legacy\nnames: t\nflag bw\nnumber cols 80\ntext bel 1b5b3f255b3b303132333435363738395d63\n err standard input: entry: Truncated at 0\n
 ti show --entry small | file => 0 out format: legacy\nnames: t\nflag bw\nnumber cols 80\ntext bel 07\n
