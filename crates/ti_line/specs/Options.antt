@@ -132,7 +132,8 @@ abbrev pub trace_form_of : Bool → Bool → Color → TraceForm
 trace_form_of true escape color = trace_forms.Json
 trace_form_of false escape color = trace_forms.Lines (form_of escape) color
 
--- what `diff` asks for by `--json`
-abbrev pub comparison_of : Bool → Color → Comparison
-comparison_of true color = comparisons.Json
-comparison_of false color = comparisons.Lines color
+-- what `diff` asks for by `--json`, and by whether it goes to a terminal
+abbrev pub comparison_of : Bool → Bool → Color → Comparison
+comparison_of true terminal color = comparisons.Json
+comparison_of false true color = comparisons.Headed color
+comparison_of false false color = comparisons.Lines color

@@ -175,7 +175,7 @@ Asks to Diff rows action =
     × ((d : code_of_diff.Pair) × (action ≡ asks.Difference d)
     × (compared (pair_in rows) ≡ Some (d.file.now, d.other.now))
     × (d.likeness ≡ likeness_of (flag_in (codes "expand") rows))
-    × ((c : Color) × (color_in to rows ≡ Some c) × (d.form ≡ comparison_of (is_json rows) c)))
+    × ((c : Color) × (color_in to rows ≡ Some c) × (d.form ≡ comparison_of (is_json rows) (is_terminal to) c)))
 
 -- a request is what a line asks for, of the files that the words name, with a summary if they have `--summary`
 abbrev pub IsRequest : Destination → List Text → Command → List Row → Request → Type 0

@@ -176,7 +176,7 @@ fn is_input_twice(words: &[&str]) -> bool
 fn diff<'a>(to: Destination, given: &ArgMatches<'a>) -> Result<Action<'a>, LineFault>
     ensures { IsAnswered to commands.Diff (given_rows given.now) result }
 {
-    let form = comparison_of(flag(given, "json"), color(to, given)?);
+    let form = comparison_of(flag(given, "json"), to.is_terminal(), color(to, given)?);
     let likeness = likeness_of(flag(given, "expand"));
     let words = given.get_strs("FILE").unwrap_or(&[]);
     if is_input_twice(words) {

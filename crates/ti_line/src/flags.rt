@@ -155,14 +155,14 @@ pub fn trace_form_of(json: bool, escape: bool, color: Color) -> TraceForm
     }
 }
 
-/// How `diff` writes.
-pub fn comparison_of(json: bool, color: Color) -> Comparison
-    ensures { result ≡ the_comparison_of json color }
+/// How `diff` writes. At a terminal its lines are for people.
+pub fn comparison_of(json: bool, terminal: bool, color: Color) -> Comparison
+    ensures { result ≡ the_comparison_of json terminal color }
 {
-    if json {
-        Comparison::Json
-    } else {
-        Comparison::Lines(color)
+    match (json, terminal) {
+        (true, _) => Comparison::Json,
+        (false, true) => Comparison::Headed(color),
+        (false, false) => Comparison::Lines(color),
     }
 }
 

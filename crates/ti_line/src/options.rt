@@ -65,6 +65,8 @@ pub enum TraceForm {
 pub enum Comparison {
     /// As lines, which may stand out.
     Lines(Color),
+    /// As the same lines for people: grouped, after the names of the files.
+    Headed(Color),
     /// As a document of JSON.
     Json,
 }

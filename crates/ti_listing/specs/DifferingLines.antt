@@ -1,9 +1,10 @@
 -- The lines on what two entries do not have alike: after `- ` what the first has of it, in red, and after
 -- `+ ` what the other has, in green. Each line is that of the listing, with all names, and in the notation.
-use Rattle.std.specs.Prelude.{ℕ, List, [], ◌∷◌, ◌++◌, codes}
+use Rattle.std.specs.Prelude.{◌||◌, ℕ, Bool, List, [], ◌∷◌, ◌++◌, codes, not, if◌then◌else◌}
 use Rattle.std.specs.List.{flat_map}
 use Rattle.ti_names.specs.AllNames.{front}
 use Rattle.ti_names.specs.declared.name_table.NameTable.TheVariants as tables
+use Rattle.ti_json.specs.Rows.{is_absent}
 use Rattle.ti_line.specs.declared.options.ListOptions.{ListOptions}
 use Rattle.ti_line.specs.declared.options.NameForm.TheVariants as name_forms
 use Rattle.ti_escape.specs.Colors.{closing, opening}
@@ -30,3 +31,20 @@ difference_lines color (topic, first, other) =
 
 abbrev pub differing_lines : Color → List DifferenceValue → List ℕ
 differing_lines color told = flat_map (difference_lines color) told
+
+-- ---- for people
+
+-- one entry lacks it
+abbrev pub is_in_one : DifferenceValue → Bool
+is_in_one (topic, first, other) = is_absent first || is_absent other
+
+abbrev pub is_in_both : DifferenceValue → Bool
+is_in_both told = not (is_in_one told)
+
+-- the lines of a difference if it is wanted
+abbrev pub lines_if : (DifferenceValue → Bool) → Color → DifferenceValue → List ℕ
+lines_if is_wanted color told = if is_wanted told then difference_lines color told else []
+
+-- those of what both have, and then of what one lacks
+abbrev pub grouped_lines : Color → List DifferenceValue → List ℕ
+grouped_lines color told = flat_map (lines_if is_in_both color) told ++ flat_map (lines_if is_in_one color) told

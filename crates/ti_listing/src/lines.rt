@@ -2,7 +2,7 @@
 
 ghost use Rattle.std.specs.List.{flat_map};
 ghost use Rattle.std.specs.Prelude.{◌≡◌, ◌++◌, IfOk, OnOk, map};
-ghost use Rattle.ti_listing.specs.DifferingLines.{colored, difference_lines, differing_lines as the_differing_lines};
+ghost use Rattle.ti_listing.specs.DifferingLines.{colored, difference_lines, differing_lines as the_differing_lines, grouped_lines as the_grouped_lines, is_in_both, is_in_one, lines_if};
 ghost use Rattle.ti_listing.specs.Values.{difference_value};
 
 use crate::difference::Difference;
@@ -87,5 +87,60 @@ pub fn differing_lines<A: Allocator + Copy>(
     'differences: for difference in differences {
         push_difference(alloc, &mut out, color, *difference)?;
     }
+    Ok(out)
+}
+
+/// Writes the lines of differences of what both entries have.
+fn push_changed<A: Allocator + Copy>(
+    alloc: A,
+    out: &mut Vec<u8, A>,
+    color: Color,
+    differences: &[Difference<'_>],
+) -> Result<(), AllocError>
+    ensures { OnOk result (out.new.items ≡ out.old.items
+        ++ flat_map (lines_if is_in_both color) (map difference_value differences.now)) }
+{
+    'differences: for difference in differences {
+        if !difference.is_in_one() {
+            push_difference(alloc, out, color, *difference)?;
+        }
+    }
+    Ok(())
+}
+
+/// Writes the lines of differences of what one entry lacks.
+fn push_lone<A: Allocator + Copy>(
+    alloc: A,
+    out: &mut Vec<u8, A>,
+    color: Color,
+    differences: &[Difference<'_>],
+) -> Result<(), AllocError>
+    ensures { OnOk result (out.new.items ≡ out.old.items
+        ++ flat_map (lines_if is_in_one color) (map difference_value differences.now)) }
+{
+    'differences: for difference in differences {
+        if difference.is_in_one() {
+            push_difference(alloc, out, color, *difference)?;
+        }
+    }
+    Ok(())
+}
+
+/// The same lines for people: those of what both entries have come before those of what one lacks.
+///
+/// # Errors
+///
+/// Memory was refused.
+pub fn grouped_lines<A: Allocator + Copy>(
+    alloc: A,
+    color: Color,
+    differences: &[Difference<'_>],
+) -> Result<Vec<u8, A>, AllocError>
+    ensures lines { IfOk result (λ v. v.items
+        ≡ the_grouped_lines color (map difference_value differences.now)) }
+{
+    let mut out = Vec::new(alloc);
+    push_changed(alloc, &mut out, color, differences)?;
+    push_lone(alloc, &mut out, color, differences)?;
     Ok(out)
 }

@@ -25,3 +25,4 @@ pub mod FileRunsLemmas
 pub mod ContentsLemmas
 pub mod ComparisonLemmas
 pub mod DocumentLemmas
+pub mod Examples

@@ -4,18 +4,19 @@ use Rattle.ti_layout.specs.declared.fault.Refused.{Refused}
 use Rattle.ti_layout.specs.Refusal.{refusal}
 use Rattle.ti_words.specs.Spelling.{Spells}
 use Rattle.ti_words.specs.Value.{EntryValue}
+use Rattle.ti_escape.specs.declared.color.Color.{Color}
 use Rattle.ti_line.specs.declared.options.Comparison.{Comparison}
 use Rattle.ti_line.specs.declared.options.Comparison.TheVariants as forms
 use Rattle.ti_line.specs.declared.options.Likeness.{Likeness}
 use Rattle.ti_line.specs.declared.request.Pair.{Pair}
 use Rattle.ti_tool.specs.declared.fault.ToolFault.TheVariants as fault
 use Rattle.ti_listing.specs.Differences.{AreDifferences, DifferenceValue}
-use Rattle.ti_listing.specs.DifferingLines.{differing_lines}
+use Rattle.ti_listing.specs.DifferingLines.{differing_lines, grouped_lines}
 use Rattle.ti_listing.specs.DifferingObjects.{differing_text}
 use Rattle.ti_tool.specs.Advice.{refusal_advice}
 use Rattle.ti_tool.specs.FaultLines.{fault_line}
 use Rattle.ti_tool.specs.FileRuns.{Contents, Ends, IsRefusedMemory, IsSupplied, IsUnread, Supply, Unread}
-use Rattle.ti_tool.specs.Files.{file_line}
+use Rattle.ti_tool.specs.Files.{file_called, file_line}
 use Rattle.ti_tool.specs.Streams.{KnownFiles, Stream, Streams, file_name}
 
 -- contents that are no entry lead to the line on that, with the name of the file before it
@@ -30,22 +31,33 @@ abbrev pub status_of : List DifferenceValue → ℕ
 status_of [] = 0
 status_of (d ∷ ds) = 1
 
--- what two entries do not have alike, as lines or as a document of JSON in a line
-abbrev pub comparison_text : Comparison → List DifferenceValue → List ℕ
-comparison_text (forms.Lines color) told = differing_lines color told
-comparison_text forms.Json told = differing_text told ++ codes "\n"
+-- the names of the files, each after the sign of its lines
+abbrev pub heading : (file other : List ℕ) → List ℕ
+heading file other =
+    codes "--- " ++ file_called file ++ codes "\n+++ " ++ file_called other ++ codes "\n"
+
+-- lines for people come after that, if there are any
+abbrev pub headed_lines : Color → (file other : List ℕ) → List DifferenceValue → List ℕ
+headed_lines color file other [] = []
+headed_lines color file other (d ∷ ds) = heading file other ++ grouped_lines color (d ∷ ds)
+
+-- what the entries of two files do not have alike, as lines or as a document of JSON in a line
+abbrev pub comparison_text : Comparison → (file other : List ℕ) → List DifferenceValue → List ℕ
+comparison_text (forms.Lines color) file other told = differing_lines color told
+comparison_text (forms.Headed color) file other told = headed_lines color file other told
+comparison_text forms.Json file other told = differing_text told ++ codes "\n"
 
 -- two entries lead to that
-abbrev pub AreCompared : Likeness → Comparison → EntryValue → EntryValue → List ℕ → List ℕ → ℕ → Type 0
-AreCompared by form v w out line status =
+abbrev pub AreCompared : Likeness → Comparison → (file other : List ℕ) → EntryValue → EntryValue → List ℕ → List ℕ → ℕ → Type 0
+AreCompared by form file other v w out line status =
     (told : List DifferenceValue) × AreDifferences by v w told
-    × (out ≡ comparison_text form told) × (line ≡ []) × (status ≡ status_of told)
+    × (out ≡ comparison_text form file other told) × (line ≡ []) × (status ≡ status_of told)
 
 -- contents that are two entries lead to that; else the first file that is none leads to its fault
 abbrev pub IsCompared : Bool → Likeness → Comparison → List ℕ → List ℕ → List ℕ → List ℕ → List ℕ → List ℕ → ℕ → Type 0
 IsCompared has_advice by form file other contents of_other out line status =
     ((v : EntryValue) × (w : EntryValue) × Spells contents v × Spells of_other w
-    × AreCompared by form v w out line status)
+    × AreCompared by form file other v w out line status)
     ⊎ (IsRefusedFile has_advice file contents out line status
     ⊎ (((v : EntryValue) × Spells contents v) × IsRefusedFile has_advice other of_other out line status))
 

@@ -2,9 +2,9 @@
 //!
 //! The first file that can't be read, or is no entry, ends the run with the line on that.
 
-ghost use Rattle.std.specs.Prelude.{◌≡◌, ◌≢◌, ◌≤◌, ◌⊎◌, IfOk, map};
+ghost use Rattle.std.specs.Prelude.{◌≡◌, ◌≢◌, ◌≤◌, ◌⊎◌, ◌++◌, IfOk, OnOk, map};
 ghost use Rattle.ti_listing.specs.Values.{difference_value};
-ghost use Rattle.ti_tool.specs.Comparisons.{AreCompared, AreSupplied, IsCompared, IsComparison, IsRefusedFile, RanDifference, comparison_text as the_comparison_text};
+ghost use Rattle.ti_tool.specs.Comparisons.{AreCompared, AreSupplied, IsCompared, IsComparison, IsRefusedFile, RanDifference, comparison_text as the_comparison_text, headed_lines as the_headed_lines, heading};
 ghost use Rattle.ti_layout.specs.Refusal.{refusal};
 ghost use Rattle.ti_tool.specs.FileRuns.{Supply};
 ghost use Rattle.ti_tool.specs.Runs.{MayHaveWritten};
@@ -15,13 +15,15 @@ use crate::advice::{advised, refusal_advice};
 use crate::command::document::as_line;
 use crate::fault::ToolFault;
 use crate::fault_line::fault_line;
+use crate::file_answer::push_called;
 use crate::files::{Outcome, contents_of, deliver_outcome, fault_outcome, refused_outcome};
 use crate::store::Store;
 use std::alloc::{AllocError, Allocator};
 use std::io::{Read, Write};
 use ti_entry::{Entry, Refused, read};
-use ti_line::{Comparison, Likeness, Pair};
-use ti_listing::{Difference, difference_of, differing_json, differing_lines};
+use ti_escape::Color;
+use ti_line::{Comparison, Pair};
+use ti_listing::{Difference, difference_of, differing_json, differing_lines, grouped_lines};
 
 /// What contents lead to that are no entry.
 fn refusal_outcome<A: Allocator + Copy>(
@@ -41,17 +43,50 @@ fn refusal_outcome<A: Allocator + Copy>(
     fault_outcome(alloc, name, advised(&line, &advice).as_slice(), 3)
 }
 
-/// What two entries do not have alike, as it is requested.
-fn comparison_text<A: Allocator + Copy>(
+/// Writes the names of the files, each after the sign of its lines.
+fn push_heading<A: Allocator>(out: &mut Vec<u8, A>, pair: &Pair<'_>) -> Result<(), AllocError>
+    ensures { OnOk result (out.new.items
+        ≡ out.old.items ++ heading pair.now.file.now pair.now.other.now) }
+{
+    out.extend_from_slice(b"--- ")?;
+    push_called(out, pair.file)?;
+    out.extend_from_slice(b"\n+++ ")?;
+    push_called(out, pair.other)?;
+    out.extend_from_slice(b"\n")
+}
+
+/// The lines for people, if there are any, after the names of the files.
+fn headed_lines<A: Allocator + Copy>(
     alloc: A,
-    form: Comparison,
+    color: Color,
+    pair: &Pair<'_>,
     differences: &[Difference<'_>],
 ) -> Result<Vec<u8, A>, AllocError>
-    ensures { IfOk result (λ v. v.items
-        ≡ the_comparison_text form (map difference_value differences.now)) }
+    ensures { IfOk result (λ v. v.items ≡ the_headed_lines color
+        pair.now.file.now pair.now.other.now (map difference_value differences.now)) }
 {
-    match form {
+    let mut out = Vec::new(alloc);
+    if differences.is_empty() {
+        return Ok(out);
+    }
+    push_heading(&mut out, pair)?;
+    let lines = grouped_lines(alloc, color, differences)?;
+    out.extend_from_slice(lines.as_slice())?;
+    Ok(out)
+}
+
+/// What the entries of two files do not have alike, as it is requested.
+fn comparison_text<A: Allocator + Copy>(
+    alloc: A,
+    pair: &Pair<'_>,
+    differences: &[Difference<'_>],
+) -> Result<Vec<u8, A>, AllocError>
+    ensures { IfOk result (λ v. v.items ≡ the_comparison_text pair.now.form
+        pair.now.file.now pair.now.other.now (map difference_value differences.now)) }
+{
+    match pair.form {
         Comparison::Lines(color) => differing_lines(alloc, color, differences),
+        Comparison::Headed(color) => headed_lines(alloc, color, pair, differences),
         Comparison::Json => as_line(differing_json(alloc, differences)?),
     }
 }
@@ -59,18 +94,18 @@ fn comparison_text<A: Allocator + Copy>(
 /// What two entries lead to: what they do not have alike.
 fn difference_outcome<'a, A: Allocator + Copy>(
     alloc: A,
-    likeness: Likeness,
-    form: Comparison,
+    pair: &Pair<'_>,
     one: &Entry<'a>,
     other: &Entry<'a>,
 ) -> Result<Outcome<A>, AllocError>
     ensures ends { IfOk result (λ o. EndsFile o.status o.bytes.items o.line.items) }
-    ensures led { IfOk result (λ o. AreCompared likeness form one.now other.now
+    ensures led { IfOk result (λ o. AreCompared pair.now.likeness pair.now.form
+        pair.now.file.now pair.now.other.now one.now other.now
         o.bytes.items o.line.items o.status) }
 {
-    let differences = difference_of(alloc, likeness, one, other)?;
+    let differences = difference_of(alloc, pair.likeness, one, other)?;
     let status = if differences.is_empty() { 0 } else { 1 };
-    let bytes = comparison_text(alloc, form, differences.as_slice())?;
+    let bytes = comparison_text(alloc, pair, differences.as_slice())?;
     Ok(Outcome {
         bytes,
         line: Vec::new(alloc),
@@ -99,7 +134,7 @@ fn outcome_of_both<A: Allocator + Copy>(
         Ok(entry) => entry,
         Err(refused) => return refusal_outcome(alloc, has_advice, pair.other, of_other, refused),
     };
-    difference_outcome(alloc, pair.likeness, pair.form, &one, &other)
+    difference_outcome(alloc, pair, &one, &other)
 }
 
 /// What two files lead to.

@@ -104,7 +104,7 @@ fn by_name<A: Allocator + Copy>(
 }
 
 /// Writes what a file is called before a line on it.
-fn push_called<A: Allocator>(out: &mut Vec<u8, A>, name: &str) -> Result<(), AllocError>
+pub fn push_called<A: Allocator>(out: &mut Vec<u8, A>, name: &str) -> Result<(), AllocError>
     ensures { OnOk result (out.new.items ≡ out.old.items ++ file_called name.now) }
 {
     if name == "-" {

@@ -123,9 +123,13 @@ fn lines_have_faults(rt: HostRuntime) {
 }
 
 /// Words, and what they ask for at a terminal that has color.
-const AT_A_TERMINAL: &str = r"
+const AT_A_TERMINAL: &str = r#"
 # Names go to a terminal in the notation alone.
 ti check => Entry(Check(Naming { table: Common, form: Notation }))
+# Differences go to a terminal for people.
+ti diff a b => Difference(Pair { file: "a", other: "b", likeness: Bytes, form: Headed(Always) })
+ti diff --color never a b => Difference(Pair { file: "a", other: "b", likeness: Bytes, form: Headed(Never) })
+ti diff --json a b => Difference(Pair { file: "a", other: "b", likeness: Bytes, form: Json })
 # An entry goes to a terminal by force alone.
 ti convert --force --wide => Entry(Convert(Some(Wide)))
 ti convert --wide --force => Entry(Convert(Some(Wide)))
@@ -133,7 +137,7 @@ ti convert --wide --force => Entry(Convert(Some(Wide)))
 ti lint => Entry(Lint(LintOptions { level: Errors, untrusted: false }, Always))
 ti lint --color auto => Entry(Lint(LintOptions { level: Errors, untrusted: false }, Always))
 ti lint --color=never => Entry(Lint(LintOptions { level: Errors, untrusted: false }, Never))
-";
+"#;
 
 /// What words ask for at a terminal.
 struct RequestedAtTerminal;

@@ -12,12 +12,18 @@ use ti_line::Likeness;
 use ti_listing::{difference_of, differing_lines};
 
 /// Words, whether results go to a terminal or to a file, and the status with what is written.
-const ROWS: &str = r"
+const ROWS: &str = r#"
 ti diff tic tic | file => 0
 ti diff more\E widened | file => 1 out - format: legacy\n+ format: wide\n
 ti diff small more\E | file => 1 out + flag+ AX\n+ text+ E3 \\E[3J\n
 ti diff more\E small | file => 1 out - flag+ AX\n- text+ E3 \\E[3J\n
 ti diff tic wide | file => 1 out - format: legacy\n+ format: wide\n- names: mog|mogyarsu test terminal\n+ names: mogw|mogyarsu wide terminal\n- number lines 24\n+ number colors 16777216\n+ number pairs 65536\n- text clear \\E[H\\E[2J\n- text cup \\E[%i%p1%d;%p2%dH\n- flag+ XT\n- number+ U8 1\n+ number+ U8 70000\n- text+ Smulx \\E[4:%p1%dm\n- text+ kUP5 \\E[1;5A\n
+# for people the files come first, and what both have before what one lacks
+ti diff tic wide | terminal => 1 out --- tic\n+++ wide\n- format: legacy\n+ format: wide\n- names: mog|mogyarsu test terminal\n+ names: mogw|mogyarsu wide terminal\n- number+ U8 1\n+ number+ U8 70000\n- number lines 24\n+ number colors 16777216\n+ number pairs 65536\n- text clear \\E[H\\E[2J\n- text cup \\E[%i%p1%d;%p2%dH\n- flag+ XT\n- text+ Smulx \\E[4:%p1%dm\n- text+ kUP5 \\E[1;5A\n
+ti diff more\E widened | terminal => 1 out --- more\\E\n+++ widened\n- format: legacy\n+ format: wide\n
+ti diff small | terminal => 1 out --- standard input\n+++ small\n- text bel \\E[?%[;0123456789]c\n+ text bel \^G\n
+ti diff twice once | terminal => 0
+ti diff --json small more\E | terminal => 1 out [{"first":{"state":"absent"},"kind":"flag","name":"AX","other":{"value":true},"own":true},{"first":{"state":"absent"},"kind":"text","name":"E3","other":{"hex":"1b5b334a","value":"\\\\E[3J"},"own":true}]\n
 ti diff twice once | file => 0
 # the input has another text
 ti diff small | file => 1 out - text bel \\E[?%[;0123456789]c\n+ text bel \^G\n
@@ -35,7 +41,7 @@ ti diff - small | file => 1 out - text bel \\E[?%[;0123456789]c\n+ text bel \^G\
 ti diff - | file => 2 err diff: standard input cannot be compared with itself\n
 ti diff - - | file => 2 err diff: standard input cannot be compared with itself\n
 ti diff a b c | file => 2 err diff: one file or two\n
-";
+"#;
 
 #[test]
 fn entries_are_told_apart(rt: HostRuntime) {

@@ -2,7 +2,8 @@ use Rattle.std.proofs.Common.{◌∙◌, ap, is_some, refl, sym}
 use Rattle.std.specs.Prelude.{codes, option_map}
 use Rattle.clap.specs.Words.{found_of}
 use Rattle.ti_line.specs.Options.{comparison_of, likeness_of}
-use Rattle.ti_line.specs.Requests.{compared, is_input_twice, texts_of}
+use Rattle.ti_line.specs.Requests.{compared, is_input_twice, is_json, texts_of}
+use Rattle.ti_line.specs.inner.Matches.{given_rows}
 use Rattle.ti_line.proofs.MatchesLemmas.{words_read}
 use Rattle.ti_line.proofs.actions.diff.Goals as goal
 
@@ -23,7 +24,8 @@ returns-in-Some c =
         (
           c.in_ok-color.field-0,
           c.in_ok-color.ensures,
-          c.in-Some.ensures.form ∙ c.comparison_of-form.ensures ∙ ap (λ json. comparison_of json c.in_ok-color.field-0) c.flag.ensures,
+          c.in-Some.ensures.form ∙ c.comparison_of-form.ensures ∙ ap (λ json. comparison_of json c.is_terminal.result c.in_ok-color.field-0) c.flag.ensures
+              ∙ ap (λ terminal. comparison_of (is_json (given_rows c.args.given.now)) terminal c.in_ok-color.field-0) c.is_terminal.ensures,
         ),
       ),
     )

@@ -10,7 +10,7 @@ returns-clause-led g c =
     let len : length c.in_ok-differences.differences.items ≡ vec_len c.in_ok-differences.differences = omega (arith, c.in_ok-differences.differences.ok) in (
       map difference_value c.in_ok-differences.differences.items,
       c.in_ok-differences.ensures.all,
-      c.in_ok-bytes.ensures ∙ ap (λ told. comparison_text c.args.form (map difference_value told)) c.as_slice.ensures.value,
+      c.in_ok-bytes.ensures ∙ ap (λ told. comparison_text c.args.pair.now.form c.args.pair.now.file.now c.args.pair.now.other.now (map difference_value told)) c.as_slice.ensures.value,
       c.new.ensures.items,
       elim c.if-is_empty.branch [
         | then-is_empty w ↦ w.status-is ∙ low_status difference_value c.in_ok-differences.differences.items _ len (sym c.is_empty.ensures ∙ w.if-is_empty.true)
