@@ -130,12 +130,15 @@ _ti_entry() {
 }
 
 _ti() {
-    local word=${COMP_WORDS[COMP_CWORD]} commands='show check lint get diff expand convert cap trace'
+    local word=${COMP_WORDS[COMP_CWORD]} before=${COMP_WORDS[COMP_CWORD - 1]} commands='show check lint get diff expand convert cap trace'
     local escape='-e --escape' hex='-x --hex' all_names='-a --all-names' padding='--rate --lines --xon' options words=
     COMPREPLY=()
-    case ${COMP_WORDS[COMP_CWORD - 1]} in
+    # The sign in --entry=FILE is a word of its own.
+    [[ $word == = ]] && word=
+    [[ $before == = ]] && before=${COMP_WORDS[COMP_CWORD - 2]}
+    case $before in
         # A number follows, so nothing is offered.
-        --rate | --lines | =) _ti_words '' && return ;;
+        --rate | --lines) _ti_words '' && return ;;
         --color) _ti_words 'auto always never' && return ;;
         --of) _ti_words "$_ti_names $_ti_long_names" && return ;;
         --entry) _ti_entry && return ;;
@@ -153,7 +156,7 @@ _ti() {
         cap) options="--source $hex $escape" words=' ' ;;
         trace) options="--source --of $escape --json --color --entry" words=' ' ;;
         help)
-            [[ ${COMP_WORDS[COMP_CWORD - 1]} == help ]] || commands=
+            [[ $before == help ]] || commands=
             _ti_words "$commands" && return
             ;;
         *) return ;;

@@ -14,7 +14,7 @@ end
 
 # For a word without a slash the files of the terminals whose names start with it.
 function __ti_entries
-    set -l word (commandline -ct)
+    set -l word (commandline -ct | string replace -r '^--entry=' '')
     if string match -qr '^[^/]+$' -- $word
         ti-path --list $word 2>/dev/null
     end
