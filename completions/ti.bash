@@ -147,7 +147,8 @@ _ti() {
     esac
     case $(_ti_command) in
         '') options='-V --version' words="$commands help" ;;
-        show | check) options="$escape $all_names --json --entry" ;;
+        show) options="$escape $all_names --json --entry" ;;
+        check) options="$escape $all_names --faults --json --entry" ;;
         lint) options='--all --untrusted --summary --json --color --entry' ;;
         get) options="$hex $escape $padding --entry" words="$_ti_names $_ti_long_names" ;;
         diff) options='--expand --json --color' ;;

@@ -40,6 +40,7 @@ complete -c ti -n '__ti_is cap trace show check expand get' -s e -l escape -d 'W
 complete -c ti -n '__ti_is show check expand' -s a -l all-names -d 'Use all names of term.h'
 complete -c ti -n '__ti_is show check lint diff trace' -l json -d 'Write JSON'
 complete -c ti -n '__ti_is lint diff trace' -l color -x -a 'auto always never' -d 'When to use color'
+complete -c ti -n '__ti_is check' -l faults -d 'Write only output strings with a fault'
 complete -c ti -n '__ti_is lint' -l all -d 'Report also findings that may be intended'
 complete -c ti -n '__ti_is lint' -l untrusted -d 'Also look at every arm of each string'
 complete -c ti -n '__ti_is lint' -l summary -d 'Write what was looked at on standard error'

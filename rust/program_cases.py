@@ -108,7 +108,7 @@ def stored_case() -> Case:
 
 def folder_cases() -> Iterator[Case]:
     """All entries of this machine, a folder at a time."""
-    forms = ["show --json", "show --escape", "show --all-names", "check", "check --json", "lint", "lint --json", "lint --all --json", "lint --untrusted"]
+    forms = ["show --json", "show --escape", "show --all-names", "check", "check --json", "check --faults", "lint", "lint --json", "lint --all --json", "lint --untrusted"]
     for folder in {folder.resolve(): folder for folder in ENTRY_FOLDERS if folder.is_dir()}.values():
         for form in forms:
             yield Case((*form.split(), str(folder)), b"")

@@ -121,10 +121,11 @@ abbrev pub show_app : App
 show_app =
     with_rules (new_app (codes "show")) (escape_rule ∷ all_names_rule ∷ json_rule ∷ entry_rule ∷ files_rule ∷ [])
 
--- `check [--escape] [--all-names] [--json] [--entry FILE] [FILE..]`
+-- `check [--escape] [--all-names] [--faults] [--json] [--entry FILE] [FILE..]`
 abbrev pub check_app : App
 check_app =
-    with_rules (new_app (codes "check")) (escape_rule ∷ all_names_rule ∷ json_rule ∷ entry_rule ∷ files_rule ∷ [])
+    with_rules (new_app (codes "check"))
+    (escape_rule ∷ all_names_rule ∷ flag_rule (codes "faults") ∷ json_rule ∷ entry_rule ∷ files_rule ∷ [])
 
 -- `lint [--all] [--untrusted] [--summary] [--json] [--color WHEN] [--entry FILE] [FILE..]`
 abbrev pub lint_app : App

@@ -26,6 +26,8 @@ use Rattle.ti_line.specs.declared.options.Output.{Output}
 use Rattle.ti_line.specs.declared.options.Output.TheVariants as outputs
 use Rattle.ti_line.specs.declared.options.TraceForm.{TraceForm}
 use Rattle.ti_line.specs.declared.options.TraceForm.TheVariants as trace_forms
+use Rattle.ti_line.specs.declared.options.Verdicts.{Verdicts}
+use Rattle.ti_line.specs.declared.options.Verdicts.TheVariants.{All, Faults}
 use Rattle.ti_line.specs.declared.request.Action.{Action}
 use Rattle.ti_line.specs.declared.request.Action.TheVariants as asks
 use Rattle.ti_line.specs.declared.request.CapabilityAction.{CapabilityAction}
@@ -117,10 +119,15 @@ show_action true all_names escape terminal = of_entry.Json documents.Listing
 show_action false all_names escape terminal =
     of_entry.Show (list_options (all_names || terminal) (escape || terminal))
 
--- what `check` asks for by the same
-abbrev pub check_action : Bool → Bool → Bool → Bool → EntryAction
-check_action true all_names escape terminal = of_entry.Json documents.Verdicts
-check_action false all_names escape terminal = of_entry.Check (naming_of all_names escape terminal)
+-- what `--faults` asks for
+abbrev pub which_verdicts : Bool → Verdicts
+which_verdicts true = Faults
+which_verdicts false = All
+
+-- what `check` asks for by it and the same
+abbrev pub check_action : Verdicts → Bool → Bool → Bool → Bool → EntryAction
+check_action which true all_names escape terminal = of_entry.Json (documents.Verdicts which)
+check_action which false all_names escape terminal = of_entry.Check which (naming_of all_names escape terminal)
 
 -- what `lint` asks for by `--json`
 abbrev pub lint_action : Bool → LintOptions → Color → EntryAction

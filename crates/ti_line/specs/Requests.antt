@@ -7,7 +7,7 @@ use Rattle.ti_words.specs.declared.Width.{Width}
 use Rattle.ti_words.specs.declared.Width.TheVariants.{Legacy, Wide}
 use Rattle.ti_pad.specs.Setting.{Setting}
 use Rattle.ti_line.specs.CommandLine.{AsksForHelp, Cap, Check, Command, Convert, Diff, Expand, Get, IsRefused, Lint, Reads, Show, Trace, files_of, flag_in, has_summary, is_minus, number_in, params_in, words_in}
-use Rattle.ti_line.specs.Options.{check_action, color_of, comparison_of, input_action, is_terminal, likeness_of, lint_action, lint_options, name_table_of, output_of, show_action, trace_form_of}
+use Rattle.ti_line.specs.Options.{check_action, color_of, comparison_of, input_action, is_terminal, likeness_of, lint_action, lint_options, name_table_of, output_of, show_action, trace_form_of, which_verdicts}
 use Rattle.ti_line.specs.Fits.{HasMisfit, IsGivenTo}
 use Rattle.ti_line.specs.Params.{AreGiven, AreParams, IsGiven, IsParam, IsWordFault}
 use Rattle.ti_line.specs.declared.destination.Destination.{Destination}
@@ -153,8 +153,9 @@ Asks to Show rows action =
     (has_json_form rows ≡ false)
     × (action ≡ Entry (show_action (is_json rows) (is_all_names rows) (is_escape rows) (is_terminal to)))
 Asks to Check rows action =
+    let which = which_verdicts (flag_in (codes "faults") rows) in
     (has_json_form rows ≡ false)
-    × (action ≡ Entry (check_action (is_json rows) (is_all_names rows) (is_escape rows) (is_terminal to)))
+    × (action ≡ Entry (check_action which (is_json rows) (is_all_names rows) (is_escape rows) (is_terminal to)))
 Asks to Lint rows action =
     let options = lint_options (flag_in (codes "all") rows) (flag_in (codes "untrusted") rows) in
     (c : Color) × (color_in to rows ≡ Some c) × (action ≡ Entry (lint_action (is_json rows) options c))

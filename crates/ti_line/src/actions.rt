@@ -10,7 +10,7 @@ ghost use Rattle.ti_line.specs.inner.Matches.{given_rows};
 use crate::destination::Destination;
 use crate::flags::{
     check_action, comparison_of, input_action, likeness_of, lint_action, lint_options,
-    name_table_of, show_action, width_of,
+    name_table_of, show_action, which_verdicts, width_of,
 };
 use crate::matches::{
     color, fitting_parameters, flag, json, name, output, padding, parameters, text, trace_form,
@@ -100,7 +100,8 @@ fn check<'a>(to: Destination, given: &ArgMatches<'a>) -> Result<Action<'a>, Line
 {
     let json = json(given)?;
     let (escape, all_names) = (flag(given, "escape"), flag(given, "all-names"));
-    Ok(Action::Entry(check_action(json, all_names, escape, to.is_terminal())))
+    let which = which_verdicts(flag(given, "faults"));
+    Ok(Action::Entry(check_action(which, json, all_names, escape, to.is_terminal())))
 }
 
 /// What `expand` requests.

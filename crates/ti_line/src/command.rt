@@ -6,9 +6,9 @@ ghost use Rattle.ti_line.specs.CommandLine.{all_names_rule, cap_app, check_app, 
 ghost use Rattle.ti_line.specs.inner.Command.{Makes};
 
 use crate::help::{
-    ALL, ALL_NAMES, ANY_NAME, ANY_PARAMS, COLOR, ESCAPE, EXPAND, FILE, FILES, FORCE, HEX, JSON,
-    LINES, NARROW, OF, PAIR, PARAMS, RATE, SOURCE, STATUSES, SUMMARY, TEXT_NAME, TRACE_PARAMS,
-    UNTRUSTED, WIDE, XON,
+    ALL, ALL_NAMES, ANY_NAME, ANY_PARAMS, COLOR, ESCAPE, EXPAND, FAULTS, FILE, FILES, FORCE, HEX,
+    JSON, LINES, NARROW, OF, PAIR, PARAMS, RATE, SOURCE, STATUSES, SUMMARY, TEXT_NAME,
+    TRACE_PARAMS, UNTRUSTED, WIDE, XON,
 };
 use clap::{Arg, ArgAction, Command, value_parser};
 use std::alloc::{AllocError, Global};
@@ -213,11 +213,11 @@ fn check<'a>(alloc: Global) -> Result<Command<'a>, AllocError>
         "check",
         "ti check [OPTIONS] [FILE]...",
         "Check each string of an entry; status 1 if one has a fault",
-        "Example, all entries of a directory:\n  ti check /lib/terminfo\n\nFor an entry that a stranger wrote:\n  ti check --escape < entry",
+        "Example, the faults of a directory of entries:\n  ti check --faults /lib/terminfo\n\nFor an entry that a stranger wrote:\n  ti check --escape < entry",
     );
     let command = with_two(command, escape(alloc), all_names(alloc));
-    let command = with_two(command, json(alloc), entry(alloc));
-    with_one(command, files(alloc, FILES))
+    let command = with_two(command, flag(alloc, "faults", FAULTS), json(alloc));
+    with_two(command, entry(alloc), files(alloc, FILES))
 }
 
 fn lint<'a>(alloc: Global) -> Result<Command<'a>, AllocError>

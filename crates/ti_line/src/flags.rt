@@ -2,10 +2,10 @@
 
 ghost use Rattle.std.specs.Prelude.{◌≡◌};
 ghost use Rattle.ti_line.specs.Requests.{width_of as the_width_of};
-ghost use Rattle.ti_line.specs.Options.{check_action as the_check_action, comparison_of as the_comparison_of, form_of as the_form_of, input_action as the_input_action, likeness_of as the_likeness_of, lint_action as the_lint_action, lint_options as the_lint_options, list_options as the_list_options, name_table_of as the_name_table_of, naming_of as the_naming_of, output_of as the_output_of, level_of as the_level_of, show_action as the_show_action, trace_form_of as the_trace_form_of};
+ghost use Rattle.ti_line.specs.Options.{check_action as the_check_action, comparison_of as the_comparison_of, form_of as the_form_of, input_action as the_input_action, likeness_of as the_likeness_of, lint_action as the_lint_action, lint_options as the_lint_options, list_options as the_list_options, name_table_of as the_name_table_of, naming_of as the_naming_of, output_of as the_output_of, level_of as the_level_of, show_action as the_show_action, trace_form_of as the_trace_form_of, which_verdicts as the_which_verdicts};
 
 use crate::options::{
-    Comparison, Document, Likeness, ListOptions, NameForm, Naming, Output, TraceForm,
+    Comparison, Document, Likeness, ListOptions, NameForm, Naming, Output, TraceForm, Verdicts,
 };
 use crate::request::{Action, CapabilityAction, EntryAction};
 use ti_escape::{Color, Form};
@@ -117,19 +117,31 @@ pub fn show_action<'a>(json: bool, all_names: bool, escape: bool, terminal: bool
     }
 }
 
+/// What `--faults` requests of `check`.
+pub fn which_verdicts(faults: bool) -> Verdicts
+    ensures { result ≡ the_which_verdicts faults }
+{
+    if faults {
+        Verdicts::Faults
+    } else {
+        Verdicts::All
+    }
+}
+
 /// What `check` requests of an entry, which `--json` makes a document.
 pub fn check_action<'a>(
+    which: Verdicts,
     json: bool,
     all_names: bool,
     escape: bool,
     terminal: bool,
 ) -> EntryAction<'a>
-    ensures { result ≡ the_check_action json all_names escape terminal }
+    ensures { result ≡ the_check_action which json all_names escape terminal }
 {
     if json {
-        EntryAction::Json(Document::Verdicts)
+        EntryAction::Json(Document::Verdicts(which))
     } else {
-        EntryAction::Check(naming_of(all_names, escape, terminal))
+        EntryAction::Check(which, naming_of(all_names, escape, terminal))
     }
 }
 

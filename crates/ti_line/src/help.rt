@@ -44,6 +44,9 @@ only at a terminal, and only if NO_COLOR is not set";
 pub(crate) const ALL_NAMES: &str = "Use the names of all 497 capabilities, in place of
 the 114 common ones";
 
+pub(crate) const FAULTS: &str = "Write only the strings with a fault, and leave out u6 and
+u8, which are patterns of input";
+
 pub(crate) const ALL: &str = "Report also findings that may be intended, such as two
 keys that send the same string";
 

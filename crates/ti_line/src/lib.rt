@@ -28,7 +28,7 @@ pub use given::{Given, Param, read_given};
 pub use message::Message;
 pub use no_request::{LineFault, NoRequest};
 pub use options::{
-    Comparison, Document, Likeness, ListOptions, NameForm, Naming, Output, TraceForm,
+    Comparison, Document, Likeness, ListOptions, NameForm, Naming, Output, TraceForm, Verdicts,
 };
 pub use params::{WordFault, read_params};
 pub use read::read_line;

@@ -40,13 +40,22 @@ pub enum Likeness {
     Tokens,
 }
 
+/// Which verdicts on the texts of an entry `check` writes.
+#[derive(Clone, Copy, Debug, PartialEq, Eq)]
+pub enum Verdicts {
+    /// That on each text.
+    All,
+    /// The faults of output strings alone.
+    Faults,
+}
+
 /// What a document of JSON says of an entry.
 #[derive(Clone, Copy, Debug, PartialEq, Eq)]
 pub enum Document {
     /// What the entry has, as a listing says it.
     Listing,
-    /// The verdict on each of its texts, as `check` gives it.
-    Verdicts,
+    /// The verdicts on its texts, as `check` gives them.
+    Verdicts(Verdicts),
     /// What is wrong with it, as `lint` reports it.
     Findings(LintOptions),
 }

@@ -1,7 +1,9 @@
 //! What a command line requests, all of it valid.
 
 use crate::given::Given;
-use crate::options::{Comparison, Document, Likeness, ListOptions, Naming, Output, TraceForm};
+use crate::options::{
+    Comparison, Document, Likeness, ListOptions, Naming, Output, TraceForm, Verdicts,
+};
 use ti_escape::Color;
 use ti_expand::Value;
 use ti_lint::LintOptions;
@@ -78,8 +80,8 @@ pub enum EntryAction<'a> {
     Show(ListOptions),
     /// To say of it in JSON what a document says.
     Json(Document),
-    /// To analyse each of its texts.
-    Check(Naming),
+    /// To analyse each of its texts, and write some verdicts.
+    Check(Verdicts, Naming),
     /// To report what is wrong with it, in lines of which parts may stand out.
     Lint(LintOptions, Color),
     /// To expand and pad one of its texts.

@@ -35,7 +35,7 @@ in_order head name comma key colon text =
 object_is : (document : Document) (name : List ℕ) (d : Data) → compact_text (file_object document name d) ++ codes "\n" ≡ in_object document name (compact_text d ++ codes "\n")
 unfolding escape_byte
 object_is documents.Listing name d = in_order (codes "{\"file\":") (quoted (notation name)) (codes ",\"") (codes "items") (codes "\":") (compact_text d)
-object_is documents.Verdicts name d = in_order (codes "{\"file\":") (quoted (notation name)) (codes ",\"") (codes "verdicts") (codes "\":") (compact_text d)
+object_is (documents.Verdicts which) name d = in_order (codes "{\"file\":") (quoted (notation name)) (codes ",\"") (codes "verdicts") (codes "\":") (compact_text d)
 object_is (documents.Findings options) name d = in_order (codes "{\"file\":") (quoted (notation name)) (codes ",\"") (codes "findings") (codes "\":") (compact_text d)
 
 pub document_of_file : (document : Document) (name : List ℕ) (passed : Bool) (input : List ℕ) (v : EntryValue) (objects : List Data) (bytes out : List ℕ) → AreObjects document passed input v objects

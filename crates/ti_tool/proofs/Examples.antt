@@ -1,10 +1,18 @@
 -- Worked rows of the definitions.
-use Rattle.std.proofs.Common.{◌≡◌, [], refl}
+use Rattle.std.proofs.Common.{◌≡◌, [], ◌∷◌, true, false, refl}
 use Rattle.std.specs.Prelude.{codes}
+use Rattle.ti_cap.specs.declared.language.CapFault.TheVariants.{CutShort}
+use Rattle.ti_cap.specs.declared.language.CapRefused.{CapRefused}
 use Rattle.ti_escape.specs.declared.color.Color.TheVariants.{Never}
+use Rattle.ti_json.specs.Rows.{HasFault, HasLimits, OfCapability, RowValue}
 use Rattle.ti_line.specs.declared.options.NameForm.TheVariants.{Notation}
+use Rattle.ti_line.specs.declared.options.Verdicts.TheVariants.{All, Faults}
+use Rattle.ti_names.specs.NameLists.{all_texts}
+use Rattle.ti_words.specs.declared.Kind.TheVariants as kinds
+use Rattle.ti_words.specs.Items.{StandardSubject}
 use Rattle.ti_tool.specs.Comparisons.{headed_lines, heading}
 use Rattle.ti_tool.specs.Files.{shown_file}
+use Rattle.ti_tool.specs.Verdicts.{is_pattern, written}
 
 -- `ti diff a - < b` at a terminal names the files first
 heading_row : heading (codes "a") (codes "-") ≡ codes "--- a\n+++ standard input\n"
@@ -20,3 +28,36 @@ input_row = refl
 
 minus_row : shown_file Notation (codes "-\n") ≡ codes "-^J"
 minus_row = refl
+
+-- `u6` is at 293 and `u8` at 295, `u7` between them
+u6_row : is_pattern (StandardSubject kinds.Text 293) ≡ true
+unfolding all_texts
+u6_row = refl
+
+u7_row : is_pattern (StandardSubject kinds.Text 294) ≡ false
+unfolding all_texts
+u7_row = refl
+
+u8_row : is_pattern (StandardSubject kinds.Text 295) ≡ true
+unfolding all_texts
+u8_row = refl
+
+abbrev cut : CapRefused
+cut = record { fault = CutShort; place = 0 }
+
+-- of `bel`, which is sound, `cr` and `u8` the fault of `cr` alone
+abbrev bell : RowValue
+bell = (OfCapability (StandardSubject kinds.Text 1), HasLimits 0 1)
+
+abbrev carriage_return : RowValue
+carriage_return = (OfCapability (StandardSubject kinds.Text 2), HasFault cut)
+
+abbrev answer : RowValue
+answer = (OfCapability (StandardSubject kinds.Text 295), HasFault cut)
+
+faults_row : written Faults (bell ∷ carriage_return ∷ answer ∷ []) ≡ carriage_return ∷ []
+unfolding all_texts
+faults_row = refl
+
+all_row : written All (bell ∷ carriage_return ∷ answer ∷ []) ≡ bell ∷ carriage_return ∷ answer ∷ []
+all_row = refl

@@ -1,3 +1,4 @@
+pub mod Examples
 pub mod IsDueLemmas
 pub mod SourcesLemmas
 pub mod DidCallLemmas
@@ -25,4 +26,3 @@ pub mod FileRunsLemmas
 pub mod ContentsLemmas
 pub mod ComparisonLemmas
 pub mod DocumentLemmas
-pub mod Examples

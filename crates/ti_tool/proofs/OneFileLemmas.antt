@@ -37,7 +37,7 @@ use Rattle.ti_tool.proofs.OneResultLemmas.{one_answer, one_objects, one_of, one_
 one_found_in : (document : Document) (input : List ℕ) (v : EntryValue) (objects others : List _) (passed as_passed : Bool) → AreObjects document passed input v objects → AreObjects document as_passed input v others
     → FindsIn document passed → FindsIn document as_passed → passed ≡ as_passed
 one_found_in documents.Listing input v objects others passed as_passed are also f g = f ∙ sym g
-one_found_in documents.Verdicts input v objects others passed as_passed are also f g = (one_objects v objects others passed as_passed are also).1
+one_found_in (documents.Verdicts which) input v objects others passed as_passed are also f g = (one_objects which v objects others passed as_passed are also).1
 one_found_in (documents.Findings options) input v objects others passed as_passed are also f g = (one_findings options input v passed as_passed objects others are also).1
 
 one_set : (item : Option ItemValue) (g : Get) (set as_set : Bool) (r s : Result (List ℕ) ToolFault) → IsValueResult item g set r → IsValueResult item g as_set s → set ≡ as_set
@@ -52,7 +52,7 @@ one_in : (before : List ℕ) (e : EntryAction) (input : List ℕ) (v : EntryValu
     → IsDueIn before e as_passed input v (Ok outs) → Finds (Entry e) passed → Finds (Entry e) as_passed → passed ≡ as_passed
 one_in before (of_entry.Show options) input v out outs passed as_passed d h f g = f ∙ sym g
 one_in before (of_entry.Json document) input v out outs passed as_passed (objects, are, is) (others, also, same) f g = one_found_in document input v objects others passed as_passed are also f g
-one_in before (of_entry.Check naming) input v out outs passed as_passed d h f g = (one_verdicts naming v out outs passed as_passed d h).1
+one_in before (of_entry.Check which naming) input v out outs passed as_passed d h f g = (one_verdicts which naming v out outs passed as_passed d h).1
 one_in before (of_entry.Lint options color) input v out outs passed as_passed d h f g = d.1 ∙ ap (λ lines. length lines == 0) (one_lines options color before input v out outs d.0 h.0) ∙ sym h.1
 one_in before (of_entry.Expand e) input v out outs passed as_passed d h f g = f ∙ sym g
 one_in before (of_entry.Convert width) input v out outs passed as_passed d h f g = f ∙ sym g

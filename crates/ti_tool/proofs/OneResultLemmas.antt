@@ -56,7 +56,8 @@ use Rattle.ti_json.specs.Objects.{array_text, row_objects}
 use Rattle.ti_json.specs.Rows.{ContentValue, HasFault, HasLimits, RowValue}
 use Rattle.ti_json.specs.Rows.{OfCapability as on_capability}
 use Rattle.ti_listing.specs.Listing.{row_lines}
-use Rattle.ti_tool.specs.Verdicts.{AreRows, AreVerdictObjects, AreVerdicts, HasRows, IsJudged, are_sound}
+use Rattle.ti_line.specs.declared.options.Verdicts.{Verdicts}
+use Rattle.ti_tool.specs.Verdicts.{AreRows, AreVerdictObjects, AreVerdicts, HasRows, IsJudged, are_sound, written}
 use Rattle.ti_line.specs.declared.given.Given.{Given}
 use Rattle.ti_line.specs.declared.request.Get.{Get}
 use Rattle.ti_line.specs.declared.request.TraceOf.{TraceOf}
@@ -237,18 +238,20 @@ are_one [] rows others is same = is ∙ sym same
 are_one (x ∷ xs) rows others (first, more, has, are, is) (first', more', has', are', same) =
     is ∙ ap₂ (λ a b. a ++ b) (has_one x.0 (text_in x.1) first first' has has') (are_one xs more more' are are') ∙ sym same
 
-pub one_verdicts : (naming : Naming) (v : EntryValue) (lines others : List ℕ) (passed as_passed : Bool) → AreVerdicts naming v lines passed → AreVerdicts naming v others as_passed → (lines ≡ others) × (passed ≡ as_passed)
-one_verdicts naming v lines others passed as_passed (rows, are, is, s) (again, also, same, t) =
-    let one = are_one (items v) rows again are also in (is ∙ ap (row_lines (record { naming = naming; form = forms.Notation })) one ∙ sym same, s ∙ ap are_sound one ∙ sym t)
+pub one_verdicts : (which : Verdicts) (naming : Naming) (v : EntryValue) (lines others : List ℕ) (passed as_passed : Bool) → AreVerdicts which naming v lines passed → AreVerdicts which naming v others as_passed
+    → (lines ≡ others) × (passed ≡ as_passed)
+one_verdicts which naming v lines others passed as_passed (rows, are, is, s) (again, also, same, t) =
+    let one = ap (written which) (are_one (items v) rows again are also) in (is ∙ ap (row_lines (record { naming = naming; form = forms.Notation })) one ∙ sym same, s ∙ ap are_sound one ∙ sym t)
 
-pub one_objects : (v : EntryValue) (objects others : List Data) (passed as_passed : Bool) → AreVerdictObjects v objects passed → AreVerdictObjects v others as_passed → (objects ≡ others) × (passed ≡ as_passed)
-one_objects v objects others passed as_passed (rows, are, is, s) (again, also, same, t) =
-    let one = are_one (items v) rows again are also in (is ∙ ap (flat_map row_objects) one ∙ sym same, s ∙ ap are_sound one ∙ sym t)
+pub one_objects : (which : Verdicts) (v : EntryValue) (objects others : List Data) (passed as_passed : Bool) → AreVerdictObjects which v objects passed → AreVerdictObjects which v others as_passed
+    → (objects ≡ others) × (passed ≡ as_passed)
+one_objects which v objects others passed as_passed (rows, are, is, s) (again, also, same, t) =
+    let one = ap (written which) (are_one (items v) rows again are also) in (is ∙ ap (flat_map row_objects) one ∙ sym same, s ∙ ap are_sound one ∙ sym t)
 
-one_judgement : (naming : Naming) (v : EntryValue) (passed as_passed : Bool) (r s : Result (List ℕ) ToolFault) → IsJudgement naming passed v r → IsJudgement naming as_passed v s → r ≡ s
-one_judgement naming v passed as_passed (Ok a) (Ok b) d h = ap Ok (one_verdicts naming v a b passed as_passed d h).0
-one_judgement naming v passed as_passed (Ok a) (Err e) d h = absurd h
-one_judgement naming v passed as_passed (Err e) s d h = absurd d
+one_judgement : (which : Verdicts) (naming : Naming) (v : EntryValue) (passed as_passed : Bool) (r s : Result (List ℕ) ToolFault) → IsJudgement which naming passed v r → IsJudgement which naming as_passed v s → r ≡ s
+one_judgement which naming v passed as_passed (Ok a) (Ok b) d h = ap Ok (one_verdicts which naming v a b passed as_passed d h).0
+one_judgement which naming v passed as_passed (Ok a) (Err e) d h = absurd h
+one_judgement which naming v passed as_passed (Err e) s d h = absurd d
 
 -- ---- values of capabilities
 
@@ -310,7 +313,7 @@ one_traced_of t v r s (item, called, d) (other, again, h) =
 one_list : (document : Document) (passed as_passed : Bool) (input : List ℕ) (v : EntryValue) (objects others : List Data)
     → AreObjects document passed input v objects → AreObjects document as_passed input v others → objects ≡ others
 one_list documents.Listing passed as_passed input v objects others are are_too = are ∙ sym are_too
-one_list documents.Verdicts passed as_passed input v objects others are are_too = (one_objects v objects others passed as_passed are are_too).0
+one_list (documents.Verdicts which) passed as_passed input v objects others are are_too = (one_objects which v objects others passed as_passed are are_too).0
 one_list (documents.Findings options) passed as_passed input v objects others are are_too = (one_findings options input v passed as_passed objects others are are_too).0
 
 one_document : (document : Document) (passed as_passed : Bool) (input : List ℕ) (v : EntryValue) (r s : Result (List ℕ) ToolFault) → IsDocument document passed input v r
@@ -343,7 +346,7 @@ one_on : (before : List ℕ) (e : EntryAction) (passed as_passed : Bool) (input 
     → IsDueIn before e passed input v r → IsDueIn before e as_passed input v s → r ≡ s
 one_on before (of_entry.Show options) passed as_passed input v r s d h = d ∙ sym h
 one_on before (of_entry.Json document) passed as_passed input v r s d h = one_document document passed as_passed input v r s d h
-one_on before (of_entry.Check naming) passed as_passed input v r s d h = one_judgement naming v passed as_passed r s d h
+one_on before (of_entry.Check which naming) passed as_passed input v r s d h = one_judgement which naming v passed as_passed r s d h
 one_on before (of_entry.Lint options color) passed as_passed input v r s d h = one_linted options color before passed as_passed input v r s d h
 one_on before (of_entry.Expand e) passed as_passed input v r s d h = one_due_for e.name.names e.name.name.now e.parameters.values e.padding e.output v r s d h
 one_on before (of_entry.Get g) passed as_passed input v r s d h = one_got g passed as_passed v r s d h
@@ -366,7 +369,7 @@ one_answer (Entry e) input passed as_passed r s d h = one_of [] e passed as_pass
 on_entry_never : (e : EntryAction) (passed : Bool) (input : List ℕ) (v : EntryValue) → IsNeverOwn (IsDueIn [] e passed input v)
 on_entry_never (of_entry.Show options) passed input v = record { no_write = λ gone d. cc; no_memory = λ d. cc }
 on_entry_never (of_entry.Json document) passed input v = document_never document passed input v
-on_entry_never (of_entry.Check naming) passed input v = record { no_write = λ gone d. d; no_memory = λ d. d }
+on_entry_never (of_entry.Check which naming) passed input v = record { no_write = λ gone d. d; no_memory = λ d. d }
 on_entry_never (of_entry.Lint options color) passed input v = record { no_write = λ gone d. d; no_memory = λ d. d }
 on_entry_never (of_entry.Expand e) passed input v = record {
   no_write = λ gone (item, called, d). (text_never (option_and_then text_in item) e.parameters.values e.padding e.output).no_write gone d;

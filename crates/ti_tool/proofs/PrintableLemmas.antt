@@ -1,5 +1,5 @@
 -- Results under `--escape` are printable lines, as many as are due.
-use Rattle.std.proofs.Common.{◌≡◌, ◌∙◌, ◌+◌, ℕ, Bool, true, false, List, [], ◌∷◌, ◌++◌, Some, inl, inr, refl, sym, ap, ap₂, subst, arith, append_assoc}
+use Rattle.std.proofs.Common.{◌≡◌, ◌≤◌, ◌∙◌, ◌+◌, ℕ, Bool, true, false, List, [], ◌∷◌, ◌++◌, Some, inl, inr, refl, sym, ap, ap₂, subst, arith, append_assoc}
 use Rattle.ti_words.specs.Items.{ExtendedSubject, FlagItem, ItemValue, Listed, NumberItem, StandardSubject, SubjectValue, TextItem, items, text_in}
 use Rattle.std.specs.Prelude.{Option, None, Ok, option_and_then, ◌⊎◌, codes, decimal, if◌then◌else◌}
 use Rattle.std.specs.List.{flat_map, list_all}
@@ -26,13 +26,15 @@ use Rattle.ti_line.specs.declared.options.NameForm.TheVariants as name_forms
 use Rattle.ti_line.specs.declared.given.Given.{Given}
 use Rattle.ti_line.specs.declared.options.Output.{Output}
 use Rattle.ti_line.specs.declared.options.Output.TheVariants as outputs
+use Rattle.ti_line.specs.declared.options.Verdicts.{Verdicts}
+use Rattle.ti_line.specs.declared.options.Verdicts.TheVariants.{All, Faults}
 use Rattle.ti_pad.specs.Setting.{Setting}
 use Rattle.ti_tool.specs.Got.{IsTextResult, IsValueResult, number_or_none, number_result}
 use Rattle.ti_listing.specs.Labels.{extended_label, names_in_form, subject_label, subject_word}
 use Rattle.ti_json.specs.Rows.{ContentValue, HasFault, HasFormat, HasLimits, HasNames, HasNumber, HasText, InState, IsSet, OfCapability, OfFormat, OfNames, RowValue, TopicValue, entry_rows, is_absent}
 use Rattle.ti_listing.specs.Listing.{content_words, entry_lines, row_line, row_lines, topic_label}
 use Rattle.serde_json.specs.Data.{Data}
-use Rattle.ti_tool.specs.Verdicts.{AreRows, HasRows}
+use Rattle.ti_tool.specs.Verdicts.{AreRows, HasRows, is_written, written}
 use Rattle.ti_json.proofs.TextLemmas.{IsText, both, decimal_text, label_text, signed_text}
 use Rattle.ti_json.proofs.PlainLemmas.{HavePlain, array_is_text, entry_is_text, fault_text, format, json_is_text, rows_are_plain, state_text}
 use Rattle.ti_names.specs.AllNames.{front}
@@ -43,7 +45,7 @@ use Rattle.ti_report.proofs.PlainLemmas.{report_is_text}
 use Rattle.ti_tool.specs.Documents.{AreObjects, IsDocument, key_of}
 use Rattle.ti_tool.proofs.DocumentLemmas.{without_newline}
 use Rattle.ti_tool.specs.Results.{IsDue, IsDueFrom}
-use Rattle.ti_tool.specs.Printable.{JsonIsPrintable, ObjectIsPrintable, ArePrintableLines, listed_lines, row_count, rows_count, text_count, texts_count, ShowIsPrintable, CheckIsPrintable, CapIsPrintable, ExpandIsPrintable, GetIsPrintable}
+use Rattle.ti_tool.specs.Printable.{JsonIsPrintable, ObjectIsPrintable, ArePrintableLines, AreVerdictLines, checked_lines, listed_lines, row_count, rows_count, text_count, texts_count, ShowIsPrintable, CheckIsPrintable, CapIsPrintable, ExpandIsPrintable, GetIsPrintable}
 
 -- ---- joining
 
@@ -138,7 +140,7 @@ shown_lines options input out e n (inr (v, spells, listed)) =
 
 objects_text : (document : Document) (passed : Bool) (input : List ℕ) (v : EntryValue) (objects : List Data) → AreObjects document passed input v objects → IsText (array_text objects)
 objects_text documents.Listing passed input v objects are = subst (λ ds. IsText (array_text ds)) (sym are) (entry_is_text v)
-objects_text documents.Verdicts passed input v objects (rows, are, is, s) = array_is_text objects (subst HavePlain (sym is) (rows_are_plain rows))
+objects_text (documents.Verdicts which) passed input v objects (rows, are, is, s) = array_is_text objects (subst HavePlain (sym is) (rows_are_plain (written which rows)))
 objects_text (documents.Findings options) passed input v objects are = report_is_text options input v passed objects are
 
 document_of : (document : Document) (passed : Bool) (input out : List ℕ) → IsDueFrom (IsDocument document passed input) input (Ok out) → (text : List ℕ) × IsText text × (out ≡ text ++ codes "\n")
@@ -150,7 +152,7 @@ json_line document passed input out due = let (text, is, e) = document_of docume
 
 key_text : (document : Document) → IsText (key_of document)
 key_text documents.Listing = refl
-key_text documents.Verdicts = refl
+key_text (documents.Verdicts which) = refl
 key_text (documents.Findings options) = refl
 
 pub object_line : ObjectIsPrintable
@@ -183,13 +185,29 @@ rows_counted [] rows is = ap rows_count is
 rows_counted (x ∷ xs) rows (first, more, has, are, is) =
     ap rows_count is ∙ both_count first more ∙ ap₂ (λ m n. m + n) (judged_count x.0 (text_in x.1) first has) (rows_counted xs more are)
 
+all_written : (rows : List RowValue) → written All rows ≡ rows
+all_written [] = refl
+all_written (row ∷ rows) = ap (λ l. row ∷ l) (all_written rows)
+
+no_more : (which : Verdicts) (rows : List RowValue) → rows_count (written which rows) ≤ rows_count rows
+no_more which [] = omega arith
+no_more which (row ∷ rows) = go (is_written which row) (no_more which rows)
+  where
+    go : (b : Bool) → rows_count (written which rows) ≤ rows_count rows → rows_count (if b then row ∷ written which rows else written which rows) ≤ row_count row + rows_count rows
+    go true rest = omega (arith, rest)
+    go false rest = omega (arith, rest)
+
+are_verdict_lines : (which : Verdicts) (v : EntryValue) (rows : List RowValue) → AreRows (items v) rows → AreVerdictLines which v (rows_count (written which rows))
+are_verdict_lines All v rows are = ap rows_count (all_written rows) ∙ rows_counted (items v) rows are
+are_verdict_lines Faults v rows are = let few = no_more Faults rows in let all = rows_counted (items v) rows are in omega (arith, few, all)
+
 pub check_lines : CheckIsPrintable
-check_lines naming input out passed n (inl (refused, is, same)) = absurd cc
-check_lines naming input out passed n (inr (v, spells, (rows, are, is, s))) =
+check_lines which naming input out passed n (inl (refused, is, same)) = absurd cc
+check_lines which naming input out passed n (inr (v, spells, (rows, are, is, s))) =
     let options : ListOptions = record { naming = naming; form = forms.Notation } in
-    let P : ℕ → List ℕ → Type 0 = λ m x. ArePrintableLines m x in
-    let Q : ℕ → Type 0 = λ m. P m out in
-    (v, spells, subst Q (rows_counted (items v) rows are) (subst (P (rows_count rows)) (sym is) (rows_text options refl n rows)))
+    let count = rows_count (written which rows) in
+    let P : List ℕ → Type 0 = λ x. ArePrintableLines count x in
+    (v, count, spells, are_verdict_lines which v rows are, subst P (sym is) (rows_text options refl n (written which rows)))
 
 -- ---- outputs
 

@@ -1,15 +1,17 @@
 -- Rows on texts, one after another.
-use Rattle.std.proofs.Common.{rules, ◌≡◌, ◌∙◌, ◌++◌, ◌∷◌, ◌&&◌, ℕ, Bool, true, List, [], Some, None, inl, ap, ap₂, append_assoc, refl, subst, sym}
+use Rattle.std.proofs.Common.{rules, ◌≡◌, ◌∙◌, ◌++◌, ◌∷◌, ◌&&◌, ℕ, Bool, true, false, List, [], Some, None, inl, ap, ap₂, append_assoc, refl, subst, sym}
 use Rattle.std.specs.List.{flat_map}
-use Rattle.std.specs.Prelude.{Option}
+use Rattle.std.specs.Prelude.{Option, if◌then◌else◌}
 use Rattle.std.proofs.lemmas.Grind.{flat_map-append}
 use Rattle.std.proofs.lemmas.List.{append-nil}
+use Rattle.std.proofs.lemmas.List.Elements.{filter-append}
 use Rattle.std.proofs.lemmas.List.Folds.{list_all-append}
 use Rattle.ti_words.specs.Items.{Listed, SubjectValue, text_in}
 use Rattle.ti_cap.specs.Capability.{HasBound, HasDepth}
 use Rattle.ti_cap.specs.Refusal.{IsFaultless}
 use Rattle.ti_json.specs.Rows.{ContentValue, HasLimits, OfCapability, RowValue}
-use Rattle.ti_tool.specs.Verdicts.{AreRows, HasRows, IsJudged, are_sound, is_sound}
+use Rattle.ti_line.specs.declared.options.Verdicts.{Verdicts}
+use Rattle.ti_tool.specs.Verdicts.{AreRows, HasRows, IsJudged, are_sound, is_sound, is_written, written}
 
 -- these rows go on to the rows of the whole, whatever the rows of the capabilities that are left are
 abbrev pub GoesOn : List Listed → List Listed → List RowValue → Type 0
@@ -46,6 +48,13 @@ one_more_sound rows subject content passed one s o =
 pub one_more_made : {Y : Type 0} (make : RowValue → List Y) (rows : List RowValue) (row : RowValue) (before out new : List Y) → out ≡ before ++ flat_map make rows → new ≡ out ++ make row → new ≡ before ++ flat_map make (rows ++ row ∷ [])
 one_more_made make rows row before out new is added =
     added ∙ ap (λ l. l ++ make row) is ∙ append_assoc before (flat_map make rows) (make row) ∙ ap (λ l. before ++ (flat_map make rows ++ l)) (sym (append-nil (make row))) ∙ ap (λ l. before ++ l) (sym (flat_map-append make rows (row ∷ [])))
+
+-- one more row is written after those before, or is not
+pub one_written : (which : Verdicts) (rows : List RowValue) (row : RowValue) → true ≡ is_written which row → written which (rows ++ row ∷ []) ≡ written which rows ++ row ∷ []
+one_written which rows row is = filter-append (is_written which) rows (row ∷ []) ∙ ap (λ b. written which rows ++ (if b then row ∷ [] else [])) (sym is)
+
+pub none_written : (which : Verdicts) (rows : List RowValue) (row : RowValue) → false ≡ is_written which row → written which (rows ++ row ∷ []) ≡ written which rows
+none_written which rows row is = filter-append (is_written which) rows (row ∷ []) ∙ ap (λ b. written which rows ++ (if b then row ∷ [] else [])) (sym is) ∙ append-nil (written which rows)
 
 -- a text that parsing accepted
 pub sound_judged : (text capability : List ℕ) (depth bound : ℕ) → capability ≡ text → IsFaultless text → HasDepth capability depth → HasBound capability 0 bound → IsJudged text (HasLimits depth bound)

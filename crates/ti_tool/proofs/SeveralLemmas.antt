@@ -12,7 +12,7 @@ use Rattle.ti_line.specs.CommandLine.{is_minus}
 use Rattle.ti_line.specs.declared.options.NameForm.{NameForm}
 use Rattle.ti_line.specs.declared.options.NameForm.TheVariants as name_forms
 use Rattle.ti_tool.specs.Files.{each_line, shown_file}
-use Rattle.ti_tool.specs.Printable.{ArePrintableLines, CheckOfSeveralIsPrintable, ShowOfSeveralIsPrintable, checked_lines, listed_lines}
+use Rattle.ti_tool.specs.Printable.{ArePrintableLines, CheckOfSeveralIsPrintable, ShowOfSeveralIsPrintable, listed_lines}
 use Rattle.ti_tool.proofs.PrintableLemmas.{check_lines, joined_lines, one, shown_lines}
 
 abbrev with_newline : List ℕ → List ℕ
@@ -86,11 +86,13 @@ several_shown options name input out passed e n (plain, due, is) =
     (v, spells, subst (λ (o : List ℕ). ArePrintableLines (1 + listed_lines v) o) (sym is) (joined_lines 1 (listed_lines v) (head ++ codes "\n") plain first lines))
 
 pub several_checked : CheckOfSeveralIsPrintable
-several_checked naming name input out passed n (plain, due, is) =
-    let (v, spells, lines) = check_lines naming input plain passed n due in
+several_checked which naming name input out passed n (plain, due, is) =
+    let (v, count, spells, counted, lines) = check_lines which naming input plain passed n due in
     let before = shown_file naming.form name ++ codes ": " in (
       v,
+      count,
       spells,
-      subst (λ (o : List ℕ). ArePrintableLines (checked_lines v) o) (sym is)
-          (each_printable before (checked_lines v) plain (both (shown_file naming.form name) (codes ": ") (file_text naming.form name n) refl) lines),
+      counted,
+      subst (λ (o : List ℕ). ArePrintableLines count o) (sym is)
+          (each_printable before count plain (both (shown_file naming.form name) (codes ": ") (file_text naming.form name n) refl) lines),
     )

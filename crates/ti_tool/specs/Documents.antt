@@ -13,7 +13,7 @@ use Rattle.ti_tool.specs.Verdicts.{AreVerdictObjects}
 -- the objects of a document on an entry that the bytes spell, with nothing wrong or with something in verdicts or findings
 abbrev pub AreObjects : Document → Bool → List ℕ → EntryValue → List Data → Type 0
 AreObjects documents.Listing passed input v objects = objects ≡ entry_objects v
-AreObjects documents.Verdicts passed input v objects = AreVerdictObjects v objects passed
+AreObjects (documents.Verdicts which) passed input v objects = AreVerdictObjects which v objects passed
 AreObjects (documents.Findings options) passed input v objects = AreFindings options input v passed objects
 
 -- the document in a line
@@ -25,13 +25,13 @@ IsDocument document passed input v (Err e) = ⊥
 -- only verdicts and findings find that something is wrong
 abbrev pub FindsIn : Document → Bool → Type 0
 FindsIn documents.Listing passed = passed ≡ true
-FindsIn documents.Verdicts passed = Unit {0}
+FindsIn (documents.Verdicts which) passed = Unit {0}
 FindsIn (documents.Findings options) passed = Unit {0}
 
 -- what the document of a file is called in its object
 abbrev pub key_of : Document → List ℕ
 key_of documents.Listing = codes "items"
-key_of documents.Verdicts = codes "verdicts"
+key_of (documents.Verdicts which) = codes "verdicts"
 key_of (documents.Findings options) = codes "findings"
 
 -- an object of the name of a file and its document without its newline, in a line

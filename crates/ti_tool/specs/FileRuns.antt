@@ -47,7 +47,7 @@ LeadsTo due known action called contents out line status =
 abbrev pub takes_folders : EntryAction → Bool
 takes_folders (of_entry.Show options) = true
 takes_folders (of_entry.Json document) = true
-takes_folders (of_entry.Check naming) = true
+takes_folders (of_entry.Check which naming) = true
 takes_folders (of_entry.Lint options color) = true
 takes_folders _ = false
 

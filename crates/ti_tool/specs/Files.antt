@@ -26,7 +26,7 @@ each_line before false (b ∷ bs) = b ∷ each_line before (b == letter (codes "
 abbrev pub one_of_several : EntryAction → List ℕ → List ℕ → List ℕ
 one_of_several (of_entry.Show options) name out =
     codes "file: " ++ shown_file options.naming.form name ++ codes "\n" ++ out
-one_of_several (of_entry.Check naming) name out =
+one_of_several (of_entry.Check which naming) name out =
     each_line (shown_file naming.form name ++ codes ": ") true out
 one_of_several (of_entry.Json document) name out = in_object document name out
 one_of_several _ name out = out

@@ -1,6 +1,6 @@
 -- What the program shows of an entry that a stranger wrote: lines that can be printed, and no more than
 -- are due.
-use Rattle.std.specs.Prelude.{◌≡◌, ◌⊎◌, ℕ, ◌+◌, Bool, true, List, [], ◌∷◌, ◌++◌, Option, Some, None, Ok, codes, if◌then◌else◌, length}
+use Rattle.std.specs.Prelude.{◌≡◌, ◌≤◌, ◌⊎◌, ℕ, ◌+◌, Bool, true, List, [], ◌∷◌, ◌++◌, Option, Some, None, Ok, codes, if◌then◌else◌, length}
 use Rattle.std.specs.List.{flat_map, list_all}
 use Rattle.ti_names.specs.declared.name_table.NameTable.{NameTable}
 use Rattle.ti_words.specs.Items.{Listed, items, text_in}
@@ -15,6 +15,8 @@ use Rattle.ti_line.specs.declared.options.ListOptions.{ListOptions}
 use Rattle.ti_line.specs.declared.options.NameForm.TheVariants as name_forms
 use Rattle.ti_line.specs.declared.options.Naming.{Naming}
 use Rattle.ti_line.specs.declared.options.Output.TheVariants as outputs
+use Rattle.ti_line.specs.declared.options.Verdicts.{Verdicts}
+use Rattle.ti_line.specs.declared.options.Verdicts.TheVariants.{All, Faults}
 use Rattle.ti_line.specs.declared.request.Get.{Get}
 use Rattle.ti_line.specs.declared.options.Document.{Document}
 use Rattle.ti_line.specs.declared.request.EntryAction.TheVariants as of_entry
@@ -56,6 +58,11 @@ texts_count (listed ∷ rest) = text_count (text_in listed.1) + texts_count rest
 abbrev pub checked_lines : EntryValue → ℕ
 checked_lines v = texts_count (items v)
 
+-- of the faults alone there are no more
+abbrev pub AreVerdictLines : Verdicts → EntryValue → ℕ → Type 0
+AreVerdictLines All v count = count ≡ checked_lines v
+AreVerdictLines Faults v count = count ≤ checked_lines v
+
 -- ---- results under `--escape`
 
 abbrev pub ShowIsPrintable : Type 0
@@ -75,9 +82,9 @@ ObjectIsPrintable = (document : Document) (passed : Bool) (name input out : List
     → ArePrintableLines 1 (in_object document name out)
 
 abbrev pub CheckIsPrintable : Type 0
-CheckIsPrintable = (naming : Naming) (input out : List ℕ) (passed : Bool)
-    → naming.form ≡ name_forms.Notation → IsDueFrom (IsJudgement naming passed) input (Ok out)
-    → (v : EntryValue) × Spells input v × ArePrintableLines (checked_lines v) out
+CheckIsPrintable = (which : Verdicts) (naming : Naming) (input out : List ℕ) (passed : Bool)
+    → naming.form ≡ name_forms.Notation → IsDueFrom (IsJudgement which naming passed) input (Ok out)
+    → (v : EntryValue) × (count : ℕ) × Spells input v × AreVerdictLines which v count × ArePrintableLines count out
 
 abbrev pub CapIsPrintable : Type 0
 CapIsPrintable = (parameters : List Value) (input out : List ℕ)
@@ -106,6 +113,6 @@ ShowOfSeveralIsPrintable = (options : ListOptions) (name input out : List ℕ) (
 
 -- each verdict comes after the name
 abbrev pub CheckOfSeveralIsPrintable : Type 0
-CheckOfSeveralIsPrintable = (naming : Naming) (name input out : List ℕ) (passed : Bool)
-    → naming.form ≡ name_forms.Notation → IsDueOfFile true (of_entry.Check naming) name passed input out
-    → (v : EntryValue) × Spells input v × ArePrintableLines (checked_lines v) out
+CheckOfSeveralIsPrintable = (which : Verdicts) (naming : Naming) (name input out : List ℕ) (passed : Bool)
+    → naming.form ≡ name_forms.Notation → IsDueOfFile true (of_entry.Check which naming) name passed input out
+    → (v : EntryValue) × (count : ℕ) × Spells input v × AreVerdictLines which v count × ArePrintableLines count out

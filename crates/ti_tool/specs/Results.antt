@@ -16,6 +16,8 @@ use Rattle.ti_draft.specs.EncodeFaults.{encode_fault}
 use Rattle.ti_line.specs.declared.options.ListOptions.{ListOptions}
 use Rattle.ti_line.specs.declared.options.Naming.{Naming}
 use Rattle.ti_line.specs.declared.options.Output.{Output}
+use Rattle.ti_line.specs.declared.options.Verdicts.{Verdicts}
+use Rattle.ti_line.specs.declared.options.Verdicts.TheVariants.{All}
 use Rattle.ti_line.specs.Options.{list_options, naming_of, output_of, output_bytes}
 pub use Rattle.ti_tool.specs.Expansions.{IsExpansion, IsPadded, IsUnexpanded}
 use Rattle.ti_escape.specs.declared.color.Color.{Color}
@@ -84,13 +86,13 @@ abbrev pub IsShown : List ℕ → Result (List ℕ) ToolFault → Type 0
 IsShown = IsDueFrom (IsListed (list_options false false))
 
 -- the lines of `check`, which are those of sound texts alone or not
-abbrev pub IsJudgement : Naming → Bool → EntryValue → Result (List ℕ) ToolFault → Type 0
-IsJudgement naming passed v (Ok out) = AreVerdicts naming v out passed
-IsJudgement naming passed v (Err e) = ⊥
+abbrev pub IsJudgement : Verdicts → Naming → Bool → EntryValue → Result (List ℕ) ToolFault → Type 0
+IsJudgement which naming passed v (Ok out) = AreVerdicts which naming v out passed
+IsJudgement which naming passed v (Err e) = ⊥
 
--- by the common names, with names as they stand in the entry
+-- on each text, by the common names, with names as they stand in the entry
 abbrev pub IsChecked : Bool → List ℕ → Result (List ℕ) ToolFault → Type 0
-IsChecked passed = IsDueFrom (IsJudgement (naming_of false false false) passed)
+IsChecked passed = IsDueFrom (IsJudgement All (naming_of false false false) passed)
 
 -- the lines of `lint` on what is wrong with an entry, with something before the first of each; nothing is wrong if there are none
 abbrev pub IsLinted : LintOptions → Color → List ℕ → Bool → List ℕ → EntryValue → Result (List ℕ) ToolFault → Type 0
@@ -125,7 +127,7 @@ abbrev pub IsDueIn : List ℕ → EntryAction → Bool → List ℕ → EntryVal
     → Result (List ℕ) ToolFault → Type 0
 IsDueIn before (of_entry.Show options) passed input = IsListed options
 IsDueIn before (of_entry.Json document) passed input = IsDocument document passed input
-IsDueIn before (of_entry.Check naming) passed input = IsJudgement naming passed
+IsDueIn before (of_entry.Check which naming) passed input = IsJudgement which naming passed
 IsDueIn before (of_entry.Lint options color) passed input = IsLinted options color before passed input
 IsDueIn before (of_entry.Expand e) passed input =
     IsDueFor e.name.names e.name.name.now e.parameters.values e.padding e.output
@@ -148,7 +150,7 @@ IsAnswer (Difference d) passed = λ input answer. ⊥
 -- only `check`, also as JSON, and `lint` find that something is wrong, and only `get` that a flag is not set
 abbrev pub Finds : Action → Bool → Type 0
 Finds (Entry (of_entry.Json document)) passed = FindsIn document passed
-Finds (Entry (of_entry.Check naming)) passed = Unit {0}
+Finds (Entry (of_entry.Check which naming)) passed = Unit {0}
 Finds (Entry (of_entry.Lint options color)) passed = Unit {0}
 Finds (Entry (of_entry.Get g)) passed = Unit {0}
 Finds _ passed = passed ≡ true

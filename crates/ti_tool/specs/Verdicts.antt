@@ -1,9 +1,14 @@
--- What `check` shows of the texts of an entry: a row on each, in a line or in an object of JSON, and whether all are capabilities.
-use Rattle.std.specs.Prelude.{◌≡◌, ◌⊎◌, ℕ, Bool, true, false, List, [], ◌∷◌, ◌++◌, Option, Some, None}
+-- What `check` shows of the texts of an entry: a row on each, or on those with a fault, in a line or in an object of JSON, and
+-- whether all of these are capabilities.
+use Rattle.std.specs.Prelude.{◌≡◌, ◌⊎◌, ◌&&◌, ℕ, Bool, true, false, not, List, [], ◌∷◌, ◌++◌, Option, Some, None, filter}
 use Rattle.std.specs.List.{flat_map, list_all}
 use Rattle.serde_json.specs.Data.{Data}
-use Rattle.ti_words.specs.Items.{Listed, SubjectValue, items, text_in}
+use Rattle.ti_words.specs.declared.Kind.TheVariants as kinds
+use Rattle.ti_words.specs.Items.{Listed, StandardSubject, SubjectValue, items, text_in}
 use Rattle.ti_words.specs.Value.{EntryValue}
+use Rattle.ti_names.specs.declared.class.Class.{Class}
+use Rattle.ti_names.specs.declared.class.Class.TheVariants.{Input}
+use Rattle.ti_names.specs.NameLists.{class_at}
 use Rattle.ti_cap.specs.declared.language.CapRefused.{CapRefused}
 use Rattle.ti_cap.specs.Capability.{HasDepth, HasBound}
 use Rattle.ti_cap.specs.Refusal.{IsFaultless, IsRefusal}
@@ -11,6 +16,8 @@ use Rattle.ti_escape.specs.declared.form.Form.TheVariants as forms
 use Rattle.ti_json.specs.Objects.{row_objects}
 use Rattle.ti_json.specs.Rows.{ContentValue, HasFault, HasLimits, OfCapability, RowValue}
 use Rattle.ti_line.specs.declared.options.Naming.{Naming}
+use Rattle.ti_line.specs.declared.options.Verdicts.{Verdicts}
+use Rattle.ti_line.specs.declared.options.Verdicts.TheVariants.{All, Faults}
 use Rattle.ti_listing.specs.Listing.{row_lines}
 
 -- ---- one text
@@ -49,13 +56,34 @@ is_sound content = true
 abbrev pub are_sound : List RowValue → Bool
 are_sound rows = list_all (λ row. is_sound row.1) rows
 
--- the lines, and the objects
-abbrev pub AreVerdicts : Naming → EntryValue → List ℕ → Bool → Type 0
-AreVerdicts naming v out passed =
-    (rows : List RowValue) × AreRows (items v) rows
-    × (out ≡ row_lines (record { naming = naming; form = forms.Notation }) rows) × (passed ≡ are_sound rows)
+-- ---- those that are written
 
-abbrev pub AreVerdictObjects : EntryValue → List Data → Bool → Type 0
-AreVerdictObjects v objects passed =
+abbrev pub is_input : Option Class → Bool
+is_input (Some Input) = true
+is_input class = false
+
+-- a text is a pattern of input, `u6` or `u8`, and no output string (terminfo(5))
+abbrev pub is_pattern : SubjectValue → Bool
+is_pattern (StandardSubject kinds.Text index) = is_input (class_at index)
+is_pattern subject = false
+
+-- each row is written, or only that on the fault of an output string
+abbrev pub is_written : Verdicts → RowValue → Bool
+is_written All row = true
+is_written Faults (OfCapability subject, content) = not (is_sound content) && not (is_pattern subject)
+is_written Faults row = false
+
+abbrev pub written : Verdicts → List RowValue → List RowValue
+written which rows = filter (is_written which) rows
+
+-- the lines, and the objects
+abbrev pub AreVerdicts : Verdicts → Naming → EntryValue → List ℕ → Bool → Type 0
+AreVerdicts which naming v out passed =
     (rows : List RowValue) × AreRows (items v) rows
-    × (objects ≡ flat_map row_objects rows) × (passed ≡ are_sound rows)
+    × (out ≡ row_lines (record { naming = naming; form = forms.Notation }) (written which rows))
+    × (passed ≡ are_sound (written which rows))
+
+abbrev pub AreVerdictObjects : Verdicts → EntryValue → List Data → Bool → Type 0
+AreVerdictObjects which v objects passed =
+    (rows : List RowValue) × AreRows (items v) rows
+    × (objects ≡ flat_map row_objects (written which rows)) × (passed ≡ are_sound (written which rows))

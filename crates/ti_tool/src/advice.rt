@@ -155,7 +155,7 @@ fn item_named<'a>(action: &EntryAction<'_>, entry: &Entry<'a>) -> Option<Item<'a
         EntryAction::Trace(of) => item_called(entry, of.name, Names::All),
         EntryAction::Show(_)
         | EntryAction::Json(_)
-        | EntryAction::Check(_)
+        | EntryAction::Check(_, _)
         | EntryAction::Lint(_, _)
         | EntryAction::Convert(_) => None,
     }

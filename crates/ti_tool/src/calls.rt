@@ -11,7 +11,7 @@ use std::io::{Read, Write};
 use ti_expand::Value;
 use ti_line::{
     Action, CapabilityAction, CapabilityResult, EntryAction, Expand, ParameterValues, TextName,
-    list_options, naming_of, output_of,
+    Verdicts, list_options, naming_of, output_of,
 };
 use ti_names::NameTable;
 use ti_pad::Padding;
@@ -83,7 +83,7 @@ pub fn check<A: Allocator + Copy, R: Read, W: Write>(
     // After a fault other than `Write` the writer is as it was.
     ensures unwritten { IfErr result (λ e. IsFailedWrite e ⊎ (writer.new ≡ writer.old)) }
 {
-    let action = Action::Entry(EntryAction::Check(naming_of(false, false, false)));
+    let action = Action::Entry(EntryAction::Check(Verdicts::All, naming_of(false, false, false)));
     carry_out(alloc, &action, reader, writer)
 }
 

@@ -94,7 +94,9 @@ pub fn answer_of_entry<A: Allocator + Copy>(
         EntryAction::Json(document) => {
             return Ok(document_of(alloc, trials, *document, bytes, entry)?);
         }
-        EntryAction::Check(naming) => return Ok(verdicts_of(alloc, *naming, entry)?),
+        EntryAction::Check(which, naming) => {
+            return Ok(verdicts_of(alloc, *which, *naming, entry)?);
+        }
         EntryAction::Lint(options, color) => {
             return Ok(findings_of_entry(alloc, trials, *options, *color, before, bytes, entry)?);
         }

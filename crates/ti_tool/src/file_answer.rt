@@ -18,7 +18,7 @@ use crate::fault::ToolFault;
 use std::alloc::{AllocError, Allocator};
 use ti_entry::{Entry, read};
 use ti_escape::{Color, push_notation};
-use ti_line::{EntryAction, ListOptions, NameForm, Naming};
+use ti_line::{EntryAction, ListOptions, NameForm, Naming, Verdicts};
 use ti_lint::LintOptions;
 use ti_listing::lines_of;
 use ti_report::Trials;
@@ -146,14 +146,15 @@ fn listing_of_file<A: Allocator + Copy>(
 /// The lines of `check` on one of several files.
 fn verdicts_of_file<A: Allocator + Copy>(
     alloc: A,
+    which: Verdicts,
     naming: Naming,
     name: &str,
     entry: &Entry<'_>,
 ) -> Result<Answer<A>, AllocError>
-    ensures { IfOk result (λ a. (plain : List ℕ) × AreVerdicts naming entry.now plain a.passed
-        × (a.bytes.items ≡ the_one_of_several (of_entry.Check naming) name.now plain)) }
+    ensures { IfOk result (λ a. (plain : List ℕ) × AreVerdicts which naming entry.now plain a.passed
+        × (a.bytes.items ≡ the_one_of_several (of_entry.Check which naming) name.now plain)) }
 {
-    let Answer { bytes, passed } = verdicts_of(alloc, naming, entry)?;
+    let Answer { bytes, passed } = verdicts_of(alloc, which, naming, entry)?;
     let bytes = by_name(alloc, naming.form, name, bytes.as_slice())?;
     Ok(Answer { bytes, passed })
 }
@@ -203,7 +204,9 @@ fn answer_of_several<A: Allocator + Copy>(
         EntryAction::Json(document) => {
             Ok(document_of_file(alloc, trials, *document, name, contents, entry)?)
         }
-        EntryAction::Check(naming) => Ok(verdicts_of_file(alloc, *naming, name, entry)?),
+        EntryAction::Check(which, naming) => {
+            Ok(verdicts_of_file(alloc, *which, *naming, name, entry)?)
+        }
         EntryAction::Lint(options, color) => {
             Ok(findings_of_file(alloc, trials, *options, *color, name, contents, entry)?)
         }

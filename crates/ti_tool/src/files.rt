@@ -281,7 +281,7 @@ fn takes_folders(of_entry: &EntryAction<'_>) -> bool
         of_entry,
         EntryAction::Show(_)
             | EntryAction::Json(_)
-            | EntryAction::Check(_)
+            | EntryAction::Check(_, _)
             | EntryAction::Lint(_, _)
     )
 }

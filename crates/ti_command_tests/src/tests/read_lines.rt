@@ -14,7 +14,8 @@ const READ: &str = r##"
 ti cap n:7 => Capability(CapabilityAction { parameters: ParameterValues { values: [Num(7), Num(0), Num(0), Num(0), Num(0), Num(0), Num(0), Num(0), Num(0)] }, result: Cap(Raw) })
 ti cap => Capability(CapabilityAction { parameters: ParameterValues { values: [Num(0), Num(0), Num(0), Num(0), Num(0), Num(0), Num(0), Num(0), Num(0)] }, result: Cap(Raw) })
 ti show --json => Entry(Json(Listing))
-ti check --json => Entry(Json(Verdicts))
+ti check --json => Entry(Json(Verdicts(All)))
+ti check --json --faults => Entry(Json(Verdicts(Faults)))
 ti cap n:4 --hex n:9 => Capability(CapabilityAction { parameters: ParameterValues { values: [Num(4), Num(9), Num(0), Num(0), Num(0), Num(0), Num(0), Num(0), Num(0)] }, result: Cap(Line(Hex)) })
 ti cap s:-x n:-5 s: s:\303\251^A => Capability(CapabilityAction { parameters: ParameterValues { values: [Text([45, 120]), Num(-5), Text([]), Text([195, 169, 1]), Num(0), Num(0), Num(0), Num(0), Num(0)] }, result: Cap(Raw) })
 ti cap s: s:\303\251^A => Capability(CapabilityAction { parameters: ParameterValues { values: [Text([]), Text([195, 169, 1]), Num(0), Num(0), Num(0), Num(0), Num(0), Num(0), Num(0)] }, result: Cap(Raw) })
@@ -35,11 +36,13 @@ ti diff a b --json --expand => Difference(Pair { file: "a", other: "b", likeness
 ti show => Entry(Show(ListOptions { naming: Naming { table: Common, form: Raw }, form: Hex }))
 ti show --escape => Entry(Show(ListOptions { naming: Naming { table: Common, form: Notation }, form: Notation }))
 ti show --all-names => Entry(Show(ListOptions { naming: Naming { table: All, form: Raw }, form: Hex }))
-ti check => Entry(Check(Naming { table: Common, form: Raw }))
-ti check --all-names => Entry(Check(Naming { table: All, form: Raw }))
-ti check --escape => Entry(Check(Naming { table: Common, form: Notation }))
+ti check => Entry(Check(All, Naming { table: Common, form: Raw }))
+ti check --all-names => Entry(Check(All, Naming { table: All, form: Raw }))
+ti check --escape => Entry(Check(All, Naming { table: Common, form: Notation }))
+ti check --faults => Entry(Check(Faults, Naming { table: Common, form: Raw }))
 ti cap --escape n:1 => Capability(CapabilityAction { parameters: ParameterValues { values: [Num(1), Num(0), Num(0), Num(0), Num(0), Num(0), Num(0), Num(0), Num(0)] }, result: Cap(Line(Notation)) })
-ti check -ea => Entry(Check(Naming { table: All, form: Notation }))
+ti check -ea => Entry(Check(All, Naming { table: All, form: Notation }))
+ti check -ea --faults => Entry(Check(Faults, Naming { table: All, form: Notation }))
 ti cap -x n:1 => Capability(CapabilityAction { parameters: ParameterValues { values: [Num(1), Num(0), Num(0), Num(0), Num(0), Num(0), Num(0), Num(0), Num(0)] }, result: Cap(Line(Hex)) })
 ti expand --all-names --escape acsc => Entry(Expand(Expand { name: TextName { name: "acsc", names: All }, parameters: ParameterValues { values: [Num(0), Num(0), Num(0), Num(0), Num(0), Num(0), Num(0), Num(0), Num(0)] }, padding: Padding { rate: 0, lines: 1, xon: false, pad: 0 }, output: Line(Notation) }))
 ti convert => Entry(Convert(None))
@@ -125,7 +128,7 @@ fn lines_have_faults(rt: HostRuntime) {
 /// Words, and what they ask for at a terminal that has color.
 const AT_A_TERMINAL: &str = r#"
 # Names go to a terminal in the notation alone.
-ti check => Entry(Check(Naming { table: Common, form: Notation }))
+ti check => Entry(Check(All, Naming { table: Common, form: Notation }))
 # Differences go to a terminal for people.
 ti diff a b => Difference(Pair { file: "a", other: "b", likeness: Bytes, form: Headed(Always) })
 ti diff --color never a b => Difference(Pair { file: "a", other: "b", likeness: Bytes, form: Headed(Never) })

@@ -7,24 +7,50 @@ ghost use Rattle.std.specs.Prelude.{◌≡◌, List, IfOk};
 ghost use Rattle.serde_json.specs.Data.{Data, array};
 ghost use Rattle.serde_json.specs.View.{items_of};
 ghost use Rattle.ti_json.specs.Printed.{Prints, all_tokens, data_tokens};
-ghost use Rattle.ti_tool.specs.Verdicts.{AreVerdictObjects, AreVerdicts};
+ghost use Rattle.ti_json.specs.Rows.{OfCapability, content_value};
+ghost use Rattle.ti_words.specs.Items.{subject_value};
+ghost use Rattle.ti_tool.specs.Verdicts.{AreVerdictObjects, AreVerdicts, is_pattern as the_is_pattern, is_written as the_is_written};
 
 use crate::command::Answer;
-use crate::verdict::judge;
+use crate::verdict::{JudgedText, judge};
 use std::alloc::{AllocError, Allocator};
 use ti_entry::Entry;
 use ti_escape::Form;
 use ti_json::{Printer, Topic, print_row};
-use ti_line::{ListOptions, Naming};
+use ti_line::{ListOptions, Naming, Verdicts};
 use ti_listing::push_row;
+use ti_names::{Class, class_of};
+use ti_words::{Kind, Subject};
+
+/// Whether a text is a pattern of input by terminfo(5), which are `u6` and `u8`.
+fn is_pattern(subject: Subject<'_>) -> bool
+    ensures { result ≡ the_is_pattern (subject_value subject.entry) }
+{
+    match subject {
+        Subject::Standard(Kind::Text, index) => matches!(class_of(index), Some(Class::Input)),
+        _ => false,
+    }
+}
+
+/// Whether the verdict on a text is written.
+fn is_written(which: Verdicts, subject: Subject<'_>, verdict: JudgedText<'_>) -> bool
+    ensures { result ≡ the_is_written which
+        (OfCapability (subject_value subject.entry), content_value verdict.entry.content) }
+{
+    match which {
+        Verdicts::All => true,
+        Verdicts::Faults => !verdict.is_sound() && !is_pattern(subject),
+    }
+}
 
 /// The lines of an entry.
 pub fn verdicts_of<A: Allocator + Copy>(
     alloc: A,
+    which: Verdicts,
     naming: Naming,
     entry: &Entry<'_>,
 ) -> Result<Answer<A>, AllocError>
-    ensures { IfOk result (λ v. AreVerdicts naming entry.now v.bytes.items v.passed) }
+    ensures { IfOk result (λ v. AreVerdicts which naming entry.now v.bytes.items v.passed) }
 {
     let options = ListOptions {
         naming,
@@ -37,14 +63,11 @@ pub fn verdicts_of<A: Allocator + Copy>(
     'items: while let Some((subject, item)) = items.next() {
         if let Some(text) = item.text() {
             last = last.next(text);
-            push_row(
-                &mut lines,
-                options,
-                b"",
-                Topic::Capability(subject),
-                last.content,
-            )?;
-            passed &= last.is_sound();
+            if is_written(which, subject, last) {
+                let topic = Topic::Capability(subject);
+                push_row(&mut lines, options, b"", topic, last.content)?;
+                passed &= last.is_sound();
+            }
         }
     }
     Ok(Answer {
@@ -53,9 +76,9 @@ pub fn verdicts_of<A: Allocator + Copy>(
     })
 }
 
-/// Prints the objects of the texts, and returns whether none has a fault.
-fn print_objects<A: Allocator>(printer: &mut Printer<A>, entry: &Entry<'_>) -> bool
-    ensures { (objects : List Data) × AreVerdictObjects entry.now objects result
+/// Prints the objects of the texts, and returns whether none of these has a fault.
+fn print_objects<A: Allocator>(printer: &mut Printer<A>, which: Verdicts, entry: &Entry<'_>) -> bool
+    ensures { (objects : List Data) × AreVerdictObjects which entry.now objects result
         × Prints printer.old printer.new (all_tokens objects) }
 {
     let mut are_sound = true;
@@ -64,20 +87,26 @@ fn print_objects<A: Allocator>(printer: &mut Printer<A>, entry: &Entry<'_>) -> b
     'items: while let Some((subject, item)) = items.next() {
         if let Some(text) = item.text() {
             last = last.next(text);
-            print_row(printer, Topic::Capability(subject), last.content);
-            are_sound &= last.is_sound();
+            if is_written(which, subject, last) {
+                print_row(printer, Topic::Capability(subject), last.content);
+                are_sound &= last.is_sound();
+            }
         }
     }
     are_sound
 }
 
-/// Prints the objects of an entry as an array, and returns whether no text has a fault.
-pub fn print_verdicts<A: Allocator>(printer: &mut Printer<A>, entry: &Entry<'_>) -> bool
-    ensures { (objects : List Data) × AreVerdictObjects entry.now objects result
+/// Prints the objects of an entry as an array, and returns whether none of these texts has a fault.
+pub fn print_verdicts<A: Allocator>(
+    printer: &mut Printer<A>,
+    which: Verdicts,
+    entry: &Entry<'_>,
+) -> bool
+    ensures { (objects : List Data) × AreVerdictObjects which entry.now objects result
         × Prints printer.old printer.new (data_tokens (array (items_of objects))) }
 {
     printer.begin_list();
-    let passed = print_objects(printer, entry);
+    let passed = print_objects(printer, which, entry);
     printer.end_list();
     passed
 }

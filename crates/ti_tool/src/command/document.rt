@@ -42,7 +42,7 @@ fn print_document<A: Allocator + Copy>(
             print_entry(printer, entry);
             Ok(true)
         }
-        Document::Verdicts => Ok(print_verdicts(printer, entry)),
+        Document::Verdicts(which) => Ok(print_verdicts(printer, which, entry)),
         Document::Findings(options) => print_report(printer, alloc, trials, options, input, entry),
     }
 }
@@ -70,7 +70,7 @@ fn key_of(document: Document) -> &'static str
 {
     match document {
         Document::Listing => "items",
-        Document::Verdicts => "verdicts",
+        Document::Verdicts(_) => "verdicts",
         Document::Findings(_) => "findings",
     }
 }

@@ -5,13 +5,13 @@ use Rattle.ti_json.specs.Objects.{row_objects}
 use Rattle.ti_json.specs.Printed.{Prints, all_tokens}
 use Rattle.ti_json.specs.Rows.{RowValue, content_value}
 use Rattle.ti_words.specs.Items.{items}
-use Rattle.ti_tool.specs.Verdicts.{IsJudged, are_sound}
+use Rattle.ti_tool.specs.Verdicts.{IsJudged, are_sound, written}
 use Rattle.ti_tool.proofs.RowsLemmas.{GoesOn}
 use Rattle.ti_tool.proofs.command.check.print_objects.Given as goal
 
 abbrev pub invariant-items : goal.invariant-items
 invariant-items g l = record {
-  rows : (rows : List RowValue) × GoesOn (items l.entry) l.items rows × Prints l.initial.printer l.printer (all_tokens (flat_map row_objects rows)) × (l.are_sound ≡ are_sound rows);
+  rows : (rows : List RowValue) × GoesOn (items l.entry) l.items rows × Prints l.initial.printer l.printer (all_tokens (flat_map row_objects (written l.which rows))) × (l.are_sound ≡ are_sound (written l.which rows));
   judged : IsJudged l.last.text.now (content_value l.last.content);
 }
 

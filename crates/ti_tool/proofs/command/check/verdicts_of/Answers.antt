@@ -1,10 +1,11 @@
-use Rattle.std.proofs.Common.{◌++◌, ◌∷◌, [], refl, subst, sym}
+use Rattle.std.proofs.Common.{◌++◌, ◌∷◌, ◌∙◌, [], ap, refl, subst, sym}
 use Rattle.ti_escape.specs.declared.form.Form.TheVariants as forms
 use Rattle.ti_json.specs.Rows.{OfCapability, content_value}
-use Rattle.ti_listing.specs.Listing.{row_line}
+use Rattle.ti_line.specs.declared.options.ListOptions.{ListOptions}
+use Rattle.ti_listing.specs.Listing.{row_line, row_lines}
 use Rattle.ti_words.specs.Items.{item_value, items, listed_value, subject_value, text_in}
-use Rattle.ti_tool.specs.Verdicts.{IsJudged}
-use Rattle.ti_tool.proofs.RowsLemmas.{GoesOn, goes_end, goes_first, goes_next, goes_skip, no_row, one_more_made, one_more_sound, one_row}
+use Rattle.ti_tool.specs.Verdicts.{IsJudged, are_sound, written}
+use Rattle.ti_tool.proofs.RowsLemmas.{GoesOn, goes_end, goes_first, goes_next, goes_skip, no_row, none_written, one_more_made, one_more_sound, one_row, one_written}
 use Rattle.ti_tool.proofs.command.check.verdicts_of.Goals as goal
 
 pub items-init : goal.items-init
@@ -13,17 +14,35 @@ items-init g c = record {
   judged = subst (λ text. IsJudged text (content_value c.judge-last.result.content)) (sym c.judge-last.ensures.text) c.judge-last.ensures.content;
 }
 
-pub items-preserved-in-Some-text : goal.items-preserved-in-Some-text
-items-preserved-in-Some-text g c =
+pub items-preserved-then-is_written : goal.items-preserved-then-is_written
+items-preserved-then-is_written g c =
     let subject = subject_value c.in-Some.subject in
     let content = content_value c.next-last.result.content in
-    let (rows, goes, lines, passed) = c.items.invariant.rows in record {
+    let options : ListOptions = record { naming = c.args.naming; form = forms.Notation } in
+    let (rows, goes, lines, passed) = c.items.invariant.rows in
+    let more = one_written c.args.which rows (OfCapability subject, content) (sym c.if-is_written.true ∙ c.is_written.ensures) in record {
       rows = (
         rows ++ (OfCapability subject, content) ∷ [],
         goes_next (items c.args.entry.now) c.items.items c.next.new.self (listed_value (c.in-Some.subject, c.in-Some.item)) rows _ c.in-Some.ensures.some
             (one_row subject (text_in (item_value c.in-Some.item)) c.in-Some-text.text.now content c.in-Some-text.ensures c.next-last.ensures.content) goes,
-        one_more_made (row_line (record { naming = c.args.naming; form = forms.Notation }) []) rows (OfCapability subject, content) [] c.items.lines.items c.push_row.new.out.items lines c.in_ok-push_row.ensures,
-        one_more_sound rows subject content c.items.passed c.is_sound-passed.result passed c.is_sound-passed.ensures,
+        one_more_made (row_line options []) (written c.args.which rows) (OfCapability subject, content) [] c.items.lines.items c.push_row.new.out.items lines c.in_ok-push_row.ensures ∙ ap (row_lines options) (sym more),
+        one_more_sound (written c.args.which rows) subject content c.items.passed c.is_sound-passed.result passed c.is_sound-passed.ensures ∙ ap are_sound (sym more),
+      );
+      judged = subst (λ text. IsJudged text content) (sym c.next-last.ensures.text) c.next-last.ensures.content;
+    }
+
+pub items-preserved-else-is_written : goal.items-preserved-else-is_written
+items-preserved-else-is_written g c =
+    let subject = subject_value c.in-Some.subject in
+    let content = content_value c.next-last.result.content in
+    let (rows, goes, lines, passed) = c.items.invariant.rows in
+    let same = none_written c.args.which rows (OfCapability subject, content) (sym c.if-is_written.false ∙ c.is_written.ensures) in record {
+      rows = (
+        rows ++ (OfCapability subject, content) ∷ [],
+        goes_next (items c.args.entry.now) c.items.items c.next.new.self (listed_value (c.in-Some.subject, c.in-Some.item)) rows _ c.in-Some.ensures.some
+            (one_row subject (text_in (item_value c.in-Some.item)) c.in-Some-text.text.now content c.in-Some-text.ensures c.next-last.ensures.content) goes,
+        lines ∙ ap (row_lines (record { naming = c.args.naming; form = forms.Notation })) (sym same),
+        passed ∙ ap are_sound (sym same),
       );
       judged = subst (λ text. IsJudged text content) (sym c.next-last.ensures.text) c.next-last.ensures.content;
     }

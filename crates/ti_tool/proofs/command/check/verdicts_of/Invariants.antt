@@ -1,15 +1,15 @@
--- What was written is the lines of rows that go on to all rows, and the last judgement is that on the last text.
+-- What was written is the lines of rows, of which those that are written go on to all rows, and the last judgement is that on the last text.
 use Rattle.std.proofs.Common.{◌≡◌, List, length}
 use Rattle.ti_json.specs.Rows.{RowValue, content_value}
 use Rattle.ti_listing.specs.Listing.{row_lines}
 use Rattle.ti_words.specs.Items.{items}
-use Rattle.ti_tool.specs.Verdicts.{IsJudged, are_sound}
+use Rattle.ti_tool.specs.Verdicts.{IsJudged, are_sound, written}
 use Rattle.ti_tool.proofs.RowsLemmas.{GoesOn}
 use Rattle.ti_tool.proofs.command.check.verdicts_of.Given as goal
 
 abbrev pub invariant-items : goal.invariant-items
 invariant-items g l = record {
-  rows : (rows : List RowValue) × GoesOn (items l.entry) l.items rows × (l.lines.items ≡ row_lines l.options rows) × (l.passed ≡ are_sound rows);
+  rows : (rows : List RowValue) × GoesOn (items l.entry) l.items rows × (l.lines.items ≡ row_lines l.options (written l.which rows)) × (l.passed ≡ are_sound (written l.which rows));
   judged : IsJudged l.last.text.now (content_value l.last.content);
 }
 
