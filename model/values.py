@@ -153,11 +153,12 @@ def findings(texts, numbers, all_told):
     for name, values in ranges(numbers):
         text = texts.get(name)
         try:
-            if text is None or not is_short(text):
-                if text is not None and all_told:
-                    yield name, text, "not-tried", " it is too long, or may send too much"
-                continue
+            tree = None if text is None else capability.tree_of(text)
         except capability.Refused:
+            continue
+        if tree is None or not is_short(text):
+            if tree is not None and all_told:
+                yield name, text, "not-tried", " it is too long, or may send too much"
             continue
         outputs = [sent(text, value) for value in values]
         found = list(of_attributes(texts, values, outputs) if name == "sgr" else of_numbers(name, text, values, outputs))
