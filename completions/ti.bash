@@ -149,7 +149,10 @@ _ti() {
         '') options='-V --version' words="$commands help" ;;
         show) options="$escape $all_names --json --entry" ;;
         check) options="$escape $all_names --faults --json --entry" ;;
-        lint) options='--all --untrusted --summary --json --color --entry' ;;
+        lint)
+            options='--all --untrusted --summary --explain --json --color --entry'
+            [[ " ${COMP_WORDS[*]} " != *' --explain '* ]] || words=$(ti lint --explain 2>/dev/null | cut -d : -f 1)
+            ;;
         get) options="$hex $escape $padding --entry" words="$_ti_names $_ti_long_names" ;;
         diff) options='--expand --json --color' ;;
         expand) options="$hex $escape $all_names $padding --entry" words=$_ti_texts ;;

@@ -44,12 +44,14 @@ complete -c ti -n '__ti_is check' -l faults -d 'Write only output strings with a
 complete -c ti -n '__ti_is lint' -l all -d 'Report also findings that may be intended'
 complete -c ti -n '__ti_is lint' -l untrusted -d 'Also look at every arm of each string'
 complete -c ti -n '__ti_is lint' -l summary -d 'Write what was looked at on standard error'
+complete -c ti -n '__ti_is lint' -l explain -d 'Explain findings, or list them'
+complete -c ti -n '__ti_is lint; and __fish_contains_opt explain' -a '(ti lint --explain 2>/dev/null | string replace ": " \t)'
 complete -c ti -n '__ti_is diff' -l expand -d 'Ignore differences in spelling'
 complete -c ti -n '__ti_is expand get' -l rate -x -d 'Speed of the line in bytes per second'
 complete -c ti -n '__ti_is expand get' -l lines -x -d 'Lines that the string affects'
 complete -c ti -n '__ti_is expand get' -l xon -d 'The line has flow control'
 complete -c ti -n '__ti_is show check lint expand get trace' -l entry -r -F -a '(__ti_entries)' -d 'The entry, in place of standard input'
-complete -c ti -n '__ti_is show check lint diff convert' -F -a '(__ti_entries)' -d Entry
+complete -c ti -n '__ti_is show check lint diff convert; and not __fish_contains_opt explain' -F -a '(__ti_entries)' -d Entry
 complete -c ti -n '__ti_is convert' -l wide -d 'Numbers of 32 bits'
 complete -c ti -n '__ti_is convert' -l narrow -d 'Numbers of 16 bits'
 complete -c ti -n '__ti_is convert' -l force -d 'Write even to a terminal'

@@ -93,12 +93,18 @@ def functions_of_facts() -> list[str]:
 
 
 def made() -> str:
-    """The table: a row for each function that rests on a lemma file."""
+    """The table: a row for each function that rests on a lemma file. Of three files or more that an earlier row has it names that row."""
     text = "| Function | Lemma files |\n|---|---|\n"
+    above: dict[str, list[str]] = {}
     for function in functions_of_facts():
         files = [file for crate in crates() if function in crate.public for file in crate.rests_on(function)]
+        within = [name for name, others in above.items() if len(others) > 2 and set(others) <= set(files)]
+        named = max(within, key=lambda name: len(above[name]), default="")
+        cells = [f"those of `{named}`"] if named else []
+        cells += [f"`{file}`" for file in files if file not in above.get(named, [])]
         if files:
-            text += f"| `{function}` | {', '.join(f'`{file}`' for file in files)} |\n"
+            text += f"| `{function}` | {', '.join(cells)} |\n"
+            above[function] = files
     return text
 
 

@@ -11,6 +11,8 @@ from entry import ABSENT, CANCELLED
 from notation import formed, notation
 
 KINDS = ["flag", "number", "text"]
+# The kind, which a text may leave out, and the index.
+LABEL = r"(flag|number|text|)#([0-9]{1,5})"
 # The short name of each text, what it is, and how many parameters terminfo(5) gives it.
 CLASSES = [line.split() for line in (Path(__file__).parent / "classes.txt").read_text().splitlines()]
 # A function key has a number and then texts, and so has its label.
@@ -41,9 +43,9 @@ def item_of(entry, name, tables, command):
         values = standard[kind]
         return kind, values[index] if index < len(values) else missing[kind]
 
-    label = re.fullmatch(r"(flag|number|text)#([0-9]{1,5})", name)
+    label = re.fullmatch(LABEL, name)
     if label:
-        return at(label[1], int(label[2]))
+        return at(label[1] or "text", int(label[2]))
     for table in tables:
         for kind in KINDS:
             for index, its_name in table[kind].items():
@@ -140,7 +142,10 @@ def must_fit(name, words, tables):
     """A Misfit if these are more words than terminfo(5) gives the capability with a name, or if one is no number where it has
     a number."""
     texts = [index for table in tables for index, its_name in table["text"].items() if its_name == name]
-    short, kind, count = CLASSES[texts[0]] if texts else ("", "", "0")
+    label = re.fullmatch(LABEL, name)
+    if label and label[1] in ("", "text"):
+        texts = [int(label[2])]
+    short, kind, count = CLASSES[texts[0]] if texts and texts[0] < len(CLASSES) else ("", "", "0")
     if kind != "parameterized":
         return
     is_other = [word[:2] not in ("n:", "s:") and not is_number(word) for word in words]

@@ -20,7 +20,7 @@ TEXT = """\
 //! A hash and the shift at its last byte give a slot, which holds the number of a row: those of the flags come first, then those
 //! of the numbers and of the texts. Each name, short or long, has a slot of its own; a slot of no name holds 0.
 
-/// What a hash is multiplied by before a byte is added.
+/// The factor of a hash, before a byte is added.
 pub(crate) const MULTIPLIER: u32 = {multiplier};
 
 /// How far the slot of a hash is shifted, by its last byte.

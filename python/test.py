@@ -169,7 +169,7 @@ def test_check_and_pad() -> None:
 
 
 def test_version() -> None:
-    told = subprocess.run(["./ti", "--version"], capture_output=True, text=True, check=True).stdout.split()[-1]
+    told = subprocess.run(["./ti", "--version"], capture_output=True, text=True, check=True).stdout.split()[1]
     expect(".".join(map(str, ti.version())) == told, f"version {ti.version()}, not {told}")
 
 

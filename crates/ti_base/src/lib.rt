@@ -1,4 +1,4 @@
-//! What all crates share: the limits, each in one place, as a constant for the code and a number of the same name in
+//! Shared by all crates: the limits, each in one place, as a constant for the code and a number of the same name in
 //! `specs/Limits.antt`, which the contracts cite. [`limits_agree`] says that the two are the same. [`read_piece`] is the one
 //! way to read from a source. [`VERSION`] is the version of them all.
 #![tactic(auto)]

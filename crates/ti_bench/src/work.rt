@@ -114,7 +114,7 @@ pub fn expand_all(alloc: Global, ready: &[Ready<'_>], turns: u32) -> Result<usiz
     Ok(total)
 }
 
-/// What a capability writes, in hex.
+/// Returns the output of a capability, in hex.
 pub fn output_of(alloc: Global, case: &Ready<'_>, vars: &mut Vars) -> Result<String> {
     let out = expand(alloc, &case.capability, &case.parameters, vars)?;
     hex::encode(alloc, out.as_slice()).context("the output")

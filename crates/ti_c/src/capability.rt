@@ -10,7 +10,7 @@ ghost use Rattle.ti_c.specs.Given.{IsRefusedAs};
 use crate::faults::{DONE, capability_number};
 use ti_cap::Capability;
 
-/// What a capability needs, or where its fault stands.
+/// The limits of a capability, or the place of its fault.
 #[repr(C)]
 #[derive(Clone, Copy, Debug, PartialEq, Eq)]
 pub struct Limits {

@@ -29,7 +29,7 @@ pub struct Parameter<'a> {
 #[repr(C)]
 #[derive(Clone, Copy, Debug)]
 pub struct PlacedRun {
-    /// What was written and run.
+    /// The counts of bytes written and tokens run.
     pub counts: ti_expand::Run,
     /// Of a capability's fault the place in its bytes; else the parameter whose text is too long, counted from 1, or the
     /// bytes that the output needs.

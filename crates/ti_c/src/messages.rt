@@ -1,4 +1,4 @@
-//! What the faults say to a person, for C: a sentence for each, in which no full stop stands at the end.
+//! The messages on faults, for C: a sentence for each, without a full stop at its end.
 //!
 //! The sentences are data, of which tests say more than a clause can. After each stands a NUL, which is no part of it: C programs
 //! may print it.

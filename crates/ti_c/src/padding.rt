@@ -7,7 +7,7 @@ ghost use Rattle.ti_c.specs.Padding.{is_within_limits, padded_as_given, IsPaddin
 use crate::faults::{BAD_PADDING, DONE, OUT_TOO_SMALL, TOO_MUCH};
 use ti_pad::{PadIntoFault, Padding, pad_into};
 
-/// What padding depends on.
+/// The settings that padding depends on.
 #[repr(C)]
 #[derive(Clone, Copy, Debug)]
 pub struct GivenPadding {

@@ -18,7 +18,7 @@ use crate::padding::{GivenPadding, padding_of, told_length};
 use ti_expand::{Run, Vars};
 use ti_pad::{PadIntoFault, Padding, pad_into};
 
-/// What lasts from one text to the next: how a terminal's line pads, and the variables.
+/// The state that lasts from one text to the next: how a terminal's line pads, and the variables.
 #[repr(C)]
 #[derive(Debug)]
 pub struct Terminal {
@@ -26,7 +26,7 @@ pub struct Terminal {
     pub variables: Vars,
 }
 
-/// What is sent, or where its fault stands.
+/// The bytes to send, or the place of the fault.
 #[repr(C)]
 #[derive(Clone, Copy, Debug)]
 pub struct Sent {
@@ -37,7 +37,7 @@ pub struct Sent {
     pub place: usize,
 }
 
-/// What an expansion writes over.
+/// A run of nothing, which an expansion overwrites.
 fn no_run() -> PlacedRun {
     let counts = Run {
         written: 0,
@@ -132,7 +132,7 @@ fn put_padded(out: &mut [u8], written: usize, padding: &Padding, sent: &mut Sent
 /// room; or the number of the first fault with the place: of the padding, of the parameters, of the capability, of the
 /// expansion, of the padded text.
 ///
-/// What the room holds after what is to be sent is left open. After a fault nothing is written but the place, and after 203 and
+/// The room after the bytes to send may change. After a fault nothing is written but the place, and after 203 and
 /// 302 in the room. No place is written after 0, a padding above its limits, or too many parameters.
 #[unsafe(no_mangle)]
 pub extern "C" fn ti_send<'a>(

@@ -30,11 +30,11 @@ pub struct View<'a> {
     pub counts: EntryCounts<'a>,
     /// The bytes of the entry.
     pub bytes: &'a [u8],
-    /// What the offsets of the extended names are counted from.
+    /// The place from which the offsets of the extended names are counted.
     pub base: usize,
 }
 
-/// What an entry says of a capability.
+/// The value of a capability in an entry.
 #[repr(C)]
 #[derive(Clone, Copy, Debug)]
 pub struct FoundItem<'a> {

@@ -18,12 +18,12 @@ pub struct Parameters {
     pub texts: ParameterSet,
 }
 
-/// What waits in an open conditional.
+/// The state of an open conditional.
 #[derive(Clone, Copy)]
 pub struct OpenOrigins {
-    /// What its tests failed with, since its last `%e`.
+    /// The state after its failed tests, since its last `%e`.
     failed: Origins,
-    /// What its bodies ended with.
+    /// The state after its bodies.
     done: Origins,
 }
 
@@ -35,7 +35,7 @@ impl OpenOrigins {
     };
 }
 
-/// What holds where a pass over the tokens stands.
+/// The state of a pass over the tokens.
 #[derive(Drop)]
 pub struct Gathering {
     /// The parameters on the stack here.

@@ -1,4 +1,4 @@
-//! What a capability is made of: its tokens, the formats in them, and the faults of bytes that are no capability.
+//! The parts of a capability: its tokens, the formats in them, and the faults of bytes that are no capability.
 //!
 //! The language is that of terminfo(5), "Parameterized Strings", and of the Terminfo chapter of X/Open Curses.
 //! All values here are small and are copied; no call takes memory, and each takes constant time.
@@ -47,7 +47,7 @@ pub enum Op {
     BitNot,
 }
 
-/// What a print makes of the value that it takes.
+/// How a value is printed.
 #[derive(Clone, Copy, Debug, PartialEq, Eq)]
 pub enum Conversion {
     /// `d`, a number in decimal with its sign.
@@ -65,7 +65,7 @@ pub enum Conversion {
 /// How a value is printed: the flags, the width, the precision and the conversion of a format.
 #[derive(Clone, Copy, Debug, PartialEq, Eq)]
 pub struct Format {
-    /// What is printed.
+    /// How the value is printed.
     pub conversion: Conversion,
     /// `-`, spaces fill on the right.
     pub left: bool,
@@ -186,7 +186,7 @@ impl std::error::Error for CapFault {}
 #[derive(Clone, Copy, Debug, PartialEq, Eq, Error)]
 #[error("{fault} at {place}")]
 pub struct CapRefused {
-    /// What is wrong.
+    /// The fault.
     pub fault: CapFault,
     /// How many bytes stand before the token at fault; the number of all bytes if the end is at fault.
     pub place: usize,

@@ -1,4 +1,4 @@
-//! What is found of a capability in one pass over its tokens.
+//! The limits of a capability, found in one pass over its tokens.
 
 /// The exact limits of a capability over all its paths, if no text is longer than some length.
 #[derive(Clone, Copy, Debug)]

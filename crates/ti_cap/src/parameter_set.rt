@@ -37,7 +37,7 @@ impl ParameterSet {
         }
     }
 
-    /// What is in either of two sets.
+    /// Returns the union of two sets.
     pub(crate) fn union(self, other: ParameterSet) -> ParameterSet
         ensures { result ≡ united self other }
     {

@@ -13,12 +13,12 @@ use crate::read_format::plain;
 use crate::scan::{OpenExtents, Scan};
 use std::marker::Model;
 
-/// What a token is handed on to.
+/// Takes the tokens that a reader finds.
 pub trait Take {
     ghost use Rattle.std.specs.Prelude.{IfSome};
     ghost use Rattle.ti_cap.specs.declared.language.Token.{Token};
 
-    /// What it returns for a token.
+    /// The answer to a token.
     type Answer;
 
     ghost may_take: { Self → Type 0 };
@@ -125,7 +125,7 @@ impl<'a, 'o> Reader<'a, 'o> {
     }
 
     /// The same for the escape of which these bytes follow the `%`. Each escape has an arm of its own, so that what is done for
-    /// its token is compiled by itself, and no token is told apart twice.
+    /// its token is compiled by itself, and no token is looked at twice.
     #[inline(always)]
     fn escape<T: Take>(&mut self, taker: &mut T, rest: &[u8]) -> Option<T::Answer>
         requires next { self.old.left ≡ 37 ∷ rest.now }
@@ -213,7 +213,7 @@ impl<'a, 'o> Reader<'a, 'o> {
         }
     }
 
-    /// What was read, if no bytes are left, or none if a conditional is still in its first test.
+    /// Returns the capability that was read, if no bytes are left, or none if a conditional is still in its first test.
     #[inline(always)]
     pub fn finish(&self) -> Option<Capability<'a>>
         requires end { self.now.left ≡ [] }

@@ -1,4 +1,4 @@
-//! What parsing keeps as it goes from token to token.
+//! The state that parsing carries from token to token.
 //!
 //! It finds the greatest height and size over all paths in one pass. Where a test may go either way both are kept, and
 //! where parts meet the greater goes on. At most one record an open conditional is needed, so the cost is constant a
@@ -17,16 +17,16 @@ pub enum ConditionalPart {
     FirstTest,
     /// The body of an arm.
     Body,
-    /// What follows a `%e`.
+    /// The part after a `%e`.
     Otherwise,
 }
 
-/// What waits in an open conditional. What there is none of has no height and no bytes.
+/// The extents of an open conditional. A part that it lacks has no height and no bytes.
 #[derive(Clone, Copy)]
 pub struct OpenExtents {
     /// Where the scan stands in it.
     part: ConditionalPart,
-    /// What its last test failed with, if a body is being passed through.
+    /// The extent after its last test failed, while a body is read.
     failed: Extent,
     /// The greatest that its bodies ended with, if any did.
     done: Extent,
@@ -41,7 +41,7 @@ impl OpenExtents {
     };
 }
 
-/// What holds where a scan stands. The open conditionals stand apart, so that these counts stay in registers.
+/// The state of a scan. The open conditionals are kept apart, so that these counts stay in registers.
 #[derive(Drop)]
 pub struct Scan {
     /// How far the paths have come.

@@ -1,4 +1,4 @@
-//! What stands at the front of some bytes.
+//! The front of some bytes.
 
 ghost use Rattle.std.specs.Prelude.{◌≡◌, drop, take};
 ghost use Rattle.ti_control.specs.SentBytes.{front_code, is_between, passes, starts_between};
@@ -32,7 +32,7 @@ pub fn starts_between(low: u8, high: u8, bytes: &[SentByte]) -> bool
     is_between(low, high, front_code(bytes))
 }
 
-/// What stands after so many bytes.
+/// Returns the bytes after the first so many.
 pub fn past(bytes: &[SentByte], count: usize) -> &[SentByte]
     ensures { result.now ≡ drop count bytes.now }
 {

@@ -1,4 +1,4 @@
-//! What a control function is called.
+//! The names of control functions.
 
 ghost use Rattle.std.specs.Prelude.{◌≡◌};
 ghost use Rattle.ti_control.specs.Parts.{function_at};
@@ -40,7 +40,7 @@ impl Form {
     }
 }
 
-/// What a control sequence requests, by its final byte; any other has an ENQ within it.
+/// Names the request of a control sequence, by its final byte; any other has an ENQ within it.
 fn request_by(last: Option<u8>) -> &'static str
     ensures { result.now ≡ request_by last }
 {
@@ -60,7 +60,7 @@ fn request_by(last: Option<u8>) -> &'static str
     }
 }
 
-/// What a string requests.
+/// Names the request of a string.
 fn request_of_string(kind: StringKind) -> &'static str
     ensures { result.now ≡ request_of_string kind }
 {
@@ -71,7 +71,7 @@ fn request_of_string(kind: StringKind) -> &'static str
     }
 }
 
-/// What a control function requests.
+/// Names the request of a control function.
 fn request_of(function: &Function) -> &'static str
     ensures { result.now ≡ request_of (function_at function.now) }
 {
@@ -85,7 +85,7 @@ fn request_of(function: &Function) -> &'static str
     }
 }
 
-/// What a control function with an effect is called, with its article.
+/// Names a control function with an effect, with its article.
 pub fn purpose(function: &Function, effect: Effect) -> &'static str
     ensures name { result.now ≡ purpose (function_at function.now) effect }
 {

@@ -6,7 +6,7 @@ ghost use Rattle.ti_control.specs.Parts.{texts_of};
 
 use crate::effect::Effect;
 
-/// What initializes and resets the terminal.
+/// The strings that initialize and reset the terminal.
 static INITIALIZING: [&str; 6] = ["is1", "is2", "is3", "rs1", "rs2", "rs3"];
 
 /// Requests for the cursor's place and the terminal's attributes, and for its version.
@@ -21,10 +21,10 @@ static TITLES: [&str; 4] = ["tsl", "fsl", "dsl", "TS"];
 /// The status line, and the screen of the cursor.
 static TITLE_STACKS: [&str; 6] = ["tsl", "fsl", "dsl", "TS", "smcup", "rmcup"];
 
-/// What writes the clipboard.
+/// The string that writes the clipboard.
 static CLIPBOARDS: [&str; 1] = ["Ms"];
 
-/// What copies the screen, and turns the printer on and off.
+/// The strings that copy the screen, and turn the printer on and off.
 static PRINTS: [&str; 4] = ["mc0", "mc4", "mc5", "mc5p"];
 
 /// The same, and what initializes and resets the terminal.
@@ -49,10 +49,10 @@ static DEVICE_CONTROLS: [&str; 21] = [
     "tsl", "fsl", "dsl", "Sync", "is1", "is2", "is3", "rs1", "rs2", "rs3",
 ];
 
-/// What `fsl` may end.
+/// The strings that `fsl` may end.
 static OPEN_STRINGS: [&str; 3] = ["tsl", "TS", "Swd"];
 
-/// What the terminal sends, lists, labels, names of files, and a program.
+/// Strings that the terminal sends, lists, labels, names of files, and a program.
 static UNSENT: [&str; 30] = [
     "u6", "u8", "xm", "PS", "PE", "acsc", "box1", "XC", "C0", "RGB", "fln", "porder", "subcs",
     "supcs", "docr", "pctrm", "lf0", "lf1", "lf2", "lf3", "lf4", "lf5", "lf6", "lf7", "lf8", "lf9",

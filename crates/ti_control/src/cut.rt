@@ -19,7 +19,7 @@ pub enum Reading {
     Cancelled,
 }
 
-/// What a control function is.
+/// The form of a control function.
 #[derive(Clone, Copy, Debug, PartialEq, Eq)]
 pub enum Form {
     /// No control function: a character, data, or a byte that means nothing.
@@ -45,7 +45,7 @@ pub enum Form {
 /// Where the first control function ends, and where its content lies.
 #[derive(Clone, Copy)]
 pub struct Cut {
-    /// What it is.
+    /// Its form.
     pub form: Form,
     /// Where its content starts: what stands between the introducer and the end of a string, or all after the introducer.
     pub start: usize,
@@ -131,7 +131,7 @@ fn body_len(bytes: &[SentByte]) -> usize
     len + intermediates_len(&bytes[len..])
 }
 
-/// What starts and goes on as no control function.
+/// Returns the part that starts and goes on as no control function.
 fn broken(more: usize) -> Cut
     ensures { result ≡ broken_cut more }
 {
@@ -192,7 +192,7 @@ fn sequence_cut(bytes: &[SentByte]) -> Cut
     }
 }
 
-/// What a control of the palette after an introducer is.
+/// Returns the control of the palette after an introducer.
 fn palette_cut(more: usize, len: usize) -> Cut
     requires few { more ≤ 1 }
     requires short { len ≤ 8 }
@@ -206,7 +206,7 @@ fn palette_cut(more: usize, len: usize) -> Cut
     }
 }
 
-/// What a string is, by how many bytes end it and what stands at its end.
+/// Returns the form of a string, by how many bytes end it and what stands at its end.
 fn string_form(kind: StringKind, end: usize, left: &[SentByte]) -> Form
     ensures { result ≡ string_form kind end left.now }
 {

@@ -1,9 +1,9 @@
-//! What a terminal does on a control function.
+//! The effects of control functions on a terminal.
 
 ghost use Rattle.std.specs.Prelude.{◌≡◌};
 ghost use Rattle.ti_control.specs.Effects.{consequence, effect_index, effect_word, effects, is_effect};
 
-/// What a terminal does on a control function that not each text of an entry may send.
+/// An effect on a terminal that not each text of an entry may have.
 #[derive(Clone, Copy, Debug, PartialEq, Eq)]
 pub enum Effect {
     /// It types an answer, which the shell or a program reads as if the user had typed it.
@@ -110,7 +110,7 @@ impl Effect {
         }
     }
 
-    /// What comes of it, as a clause whose subject is the terminal.
+    /// Says what comes of it, as a clause whose subject is the terminal.
     pub fn consequence(self) -> &'static str
         ensures clause { result.now ≡ consequence self }
     {

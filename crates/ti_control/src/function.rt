@@ -11,11 +11,11 @@ use crate::sent_byte::SentByte;
 /// A control function, which it lends from the text.
 #[derive(Clone, Copy)]
 pub struct Function<'a> {
-    /// What it is.
+    /// Its form.
     pub form: Form,
     /// All its bytes.
     pub bytes: &'a [SentByte],
-    /// What stands after its introducer, and for a string before its end.
+    /// The bytes after its introducer, and for a string before its end.
     pub content: &'a [SentByte],
 }
 

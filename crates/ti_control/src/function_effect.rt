@@ -1,4 +1,4 @@
-//! What a terminal does on a control function.
+//! The effect of a control function on a terminal.
 
 ghost use Rattle.std.specs.Prelude.{◌≡◌};
 ghost use Rattle.std.specs.List.{list_any};
@@ -27,7 +27,7 @@ pub fn has_enquiry(bytes: &[SentByte]) -> bool
     bytes.iter().any(|sent| is_enquiry(*sent))
 }
 
-/// What an escape sequence is for, by the byte after its escape.
+/// Returns the effect of an escape sequence, by the byte after its escape.
 fn escape_by(byte: u8) -> Option<Effect>
     ensures { result ≡ escape_by byte }
 {
@@ -39,7 +39,7 @@ fn escape_by(byte: u8) -> Option<Effect>
     }
 }
 
-/// What an escape sequence is for.
+/// Returns the effect of an escape sequence.
 fn escape_effect(bytes: &[SentByte]) -> Option<Effect>
     ensures { result ≡ escape_effect bytes.now }
 {
@@ -66,7 +66,7 @@ pub fn on_ecma(is_ecma: bool, effect: Option<Effect>) -> Option<Effect>
     if is_ecma { effect } else { None }
 }
 
-/// What a terminal does on a control function itself, whatever stands within it.
+/// Returns the effect of a control function itself, whatever stands within it.
 pub fn main_effect(is_ecma: bool, function: &Function) -> Option<Effect>
     ensures { result ≡ main_effect is_ecma (function_at function.now) }
 {

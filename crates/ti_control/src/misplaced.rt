@@ -21,7 +21,7 @@ pub struct Place<'a> {
     pub capability: &'a [u8],
     /// Whether the terminal is taken for one of ECMA-48, so that functions of two bytes, strings without an end and ENQ count.
     pub is_ecma: bool,
-    /// What is sent after it: for `tsl` and the like the text of `fsl`, which may end a string.
+    /// The bytes that are sent after it: for `tsl` and the like the text of `fsl`, which may end a string.
     pub after: &'a [SentByte],
 }
 
@@ -32,7 +32,7 @@ pub struct Misplaced<'a> {
     pub at: usize,
     /// The function.
     pub function: Function<'a>,
-    /// What the terminal does on it.
+    /// Its effect on the terminal.
     pub effect: Effect,
 }
 
@@ -86,7 +86,7 @@ fn first_some(first: Option<Effect>, other: Option<Effect>) -> Option<Effect>
     }
 }
 
-/// What may not be there of a function, if anything.
+/// Returns the effect of a function that it may not have there, if it has one.
 pub fn misplaced_effect(place: &Place, function: &Function) -> Option<Effect>
     ensures exact { result ≡ misplaced_effect (place_at place.now) (function_at function.now) }
 {

@@ -1,4 +1,4 @@
-//! What should not stand in the names of an entry.
+//! Bytes that should not stand in the names of an entry.
 
 ghost use Rattle.std.specs.Prelude.{◌≡◌, MatchOption};
 ghost use Rattle.std.specs.Str.{IsUtf8};

@@ -16,9 +16,9 @@ pub enum NumberSet {
     Reporting,
     /// The mode that locks the keyboard.
     Locking,
-    /// What turns a printer on.
+    /// The numbers that turn a printer on.
     Printing,
-    /// What makes the terminal send other bytes for keys.
+    /// The numbers that make the terminal send other bytes for keys.
     Keys,
 }
 

@@ -1,4 +1,4 @@
-//! What the first bytes open.
+//! The kind of control function that the first bytes open.
 
 ghost use Rattle.std.specs.Prelude.{◌≡◌, drop};
 ghost use Rattle.ti_control.specs.Openings.{one_byte, opened_by, opened_by_letter, opening_at, opening_of};
@@ -21,7 +21,7 @@ pub enum StringKind {
     Application,
 }
 
-/// What the first bytes open.
+/// The kind of control function that bytes open.
 #[derive(Clone, Copy)]
 pub enum Opening {
     /// No control function.
@@ -36,7 +36,7 @@ pub enum Opening {
     String(StringKind),
 }
 
-/// What an escape and the byte after it open.
+/// Returns the kind that an escape and the byte after it open.
 fn opened_by(byte: u8) -> Opening
     ensures { result ≡ opened_by byte }
 {
@@ -77,7 +77,7 @@ fn opened_by_letter(second: Option<u8>) -> Opening
     }
 }
 
-/// What a byte opens, with the one after it.
+/// Returns the kind that a byte opens, with the one after it.
 fn opening_of(first: u8, second: Option<u8>) -> Opening
     ensures { result ≡ opening_of first second }
 {
@@ -99,7 +99,7 @@ fn opening_of(first: u8, second: Option<u8>) -> Opening
     Opening::Character
 }
 
-/// What the first bytes open.
+/// Returns the kind that the first bytes open.
 pub fn opening_at(bytes: &[SentByte]) -> Opening
     ensures { result ≡ opening_at bytes.now }
 {

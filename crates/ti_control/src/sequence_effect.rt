@@ -1,4 +1,4 @@
-//! What a terminal does on a control sequence, by xterm's ctlseqs.
+//! The effect of a control sequence on a terminal, by xterm's ctlseqs.
 
 ghost use Rattle.std.specs.Prelude.{◌≡◌};
 ghost use Rattle.ti_control.specs.SequenceEffects.{attributes_effect, effect_if, effect_with, effect_without, is_window_request, keyboard_effect, keys_effect, mode_effect, printer_effect, question_effect, sequence_effect, status_effect, terminal_effect, version_effect, window_by, window_effect};
@@ -101,7 +101,7 @@ fn is_window_request(number: u32) -> bool
     number == 11 || (13 <= number && number <= 16) || (18 <= number && number <= 21)
 }
 
-/// What a number of `CSI .. t` is for.
+/// Returns the effect of a number of `CSI .. t`.
 fn window_by(number: u32) -> Option<Effect>
     ensures { result ≡ window_by number }
 {
@@ -147,7 +147,7 @@ fn terminal_effect(mark: Mark, bytes: &[SentByte]) -> Option<Effect>
     }
 }
 
-/// What a control sequence without intermediate bytes is for, by its final byte.
+/// Returns the effect of a control sequence without intermediate bytes, by its final byte.
 fn effect_without(last: u8, bytes: &[SentByte]) -> Option<Effect>
     ensures { result ≡ effect_without last bytes.now }
 {
@@ -167,7 +167,7 @@ fn effect_without(last: u8, bytes: &[SentByte]) -> Option<Effect>
     }
 }
 
-/// What a control sequence is for by its last intermediate byte and its final byte: it requests modes, tabs, the cursor, a sum of the screen,
+/// Returns the effect of a control sequence by its last intermediate and its final byte: it requests modes, tabs, the cursor, a sum of the screen,
 /// characters or colors, or resets the terminal.
 fn effect_with(before: u8, last: u8) -> Option<Effect>
     ensures { result ≡ effect_with before last }
@@ -182,7 +182,7 @@ fn effect_with(before: u8, last: u8) -> Option<Effect>
     }
 }
 
-/// What a terminal does on a control sequence, by what stands after its introducer.
+/// Returns the effect of a control sequence, by the bytes after its introducer.
 pub fn sequence_effect(bytes: &[SentByte]) -> Option<Effect>
     ensures { result ≡ sequence_effect bytes.now }
 {

@@ -1,4 +1,4 @@
-//! What a terminal does on a string, by xterm's ctlseqs and the pages of other terminals.
+//! The effect of a string on a terminal, by xterm's ctlseqs and the pages of other terminals.
 
 ghost use Rattle.std.specs.Prelude.{◌≡◌, ◌≤◌, length};
 ghost use Rattle.std.specs.List.{list_any, prefix_len};
@@ -78,7 +78,7 @@ fn is_other(number: u32) -> bool
     }
 }
 
-/// What an OSC is for, by its number.
+/// Returns the effect of an OSC, by its number.
 fn system_by(number: u32) -> Option<Effect>
     ensures { result ≡ system_by number }
 {
@@ -101,7 +101,7 @@ fn has_request(number: u32, bytes: &[SentByte]) -> bool
         && has_question(bytes)
 }
 
-/// What an OSC is for.
+/// Returns the effect of an OSC.
 fn system_effect(bytes: &[SentByte]) -> Option<Effect>
     ensures { result ≡ system_effect bytes.now }
 {
@@ -138,7 +138,7 @@ fn is_request_of_device(bytes: &[SentByte]) -> bool
         && is_between(b'q', b'q', front_code(past(bytes, 1)))
 }
 
-/// What a device control string is for.
+/// Returns the effect of a device control string.
 fn device_effect(bytes: &[SentByte]) -> Effect
     ensures { result ≡ device_effect bytes.now }
 {
@@ -149,7 +149,7 @@ fn device_effect(bytes: &[SentByte]) -> Effect
     }
 }
 
-/// What an APC is for: one with a `G` has graphics.
+/// Returns the effect of an APC: one with a `G` has graphics.
 fn application_effect(bytes: &[SentByte]) -> Option<Effect>
     ensures { result ≡ application_effect bytes.now }
 {
@@ -159,7 +159,7 @@ fn application_effect(bytes: &[SentByte]) -> Option<Effect>
     )
 }
 
-/// What a terminal does on a string, by what stands in it.
+/// Returns the effect of a string, by its content.
 pub fn string_effect(kind: StringKind, bytes: &[SentByte]) -> Option<Effect>
     ensures { result ≡ string_effect kind bytes.now }
 {

@@ -15,7 +15,7 @@ use std::fmt;
 use std::marker::Model;
 use ti_words::{Flag, Number, Text, Width};
 
-/// What an entry is to say (term(5)).
+/// The values of an entry to be written (term(5)).
 #[derive(Drop)]
 pub struct Draft<'a, A: Allocator = Global> {
     width: Width,

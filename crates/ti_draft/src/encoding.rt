@@ -172,7 +172,7 @@ fn present_count(texts: &[Text<'_>]) -> usize
     count
 }
 
-/// What the word items of an extended header counts: the texts that are there, and the names.
+/// Returns the number in the word `items` of an extended header: the texts that are there, and the names.
 fn items_count(part: &Lists<'_, '_>) -> usize
     requires { AreFew (values_lent part.now) (names_lent part.now) }
     ensures { result

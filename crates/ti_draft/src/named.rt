@@ -79,7 +79,7 @@ impl<'a, T, A: Allocator> Named<'a, T, A> {
         self.names.as_slice()
     }
 
-    /// What they name.
+    /// Returns their values.
     pub(crate) fn marks(&self) -> &[T]
         ensures { result.now ≡ map mark_in self.now }
     {

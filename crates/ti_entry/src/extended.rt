@@ -23,7 +23,7 @@ use ti_words::{Flag, Kind, Number, Text};
 pub struct Extended<'a> {
     bytes: &'a [u8],
     part: Part,
-    /// What the offsets of the names are counted from.
+    /// The place from which the offsets of the names are counted.
     base: usize,
 }
 

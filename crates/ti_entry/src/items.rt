@@ -13,7 +13,7 @@ use std::marker::Model;
 use ti_layout::Texts;
 use ti_words::{Item, Kind, Subject};
 
-/// What is left of the list of an entry's capabilities.
+/// The rest of the list of an entry's capabilities.
 #[derive(Drop)]
 pub struct Items<'e, 'a> {
     entry: &'e Entry<'a>,

@@ -46,7 +46,7 @@ impl std::error::Error for NotationFault {}
 #[derive(Clone, Copy, Debug, PartialEq, Eq, Error)]
 #[error("{fault} at {place}")]
 pub struct NotationRefused {
-    /// What is wrong.
+    /// The fault.
     pub fault: NotationFault,
     /// The place of the `\` or the `^`.
     pub place: usize,
@@ -69,7 +69,7 @@ impl From<AllocError> for ReadingFault {
     }
 }
 
-/// What the first characters mean.
+/// The meaning of the first characters.
 #[derive(Clone, Copy)]
 pub struct Meant {
     pub(crate) byte: u8,
@@ -89,7 +89,7 @@ fn octal_digit(text: &[u8]) -> Option<u16>
     }
 }
 
-/// What one to three octal digits at the front mean, if there is one.
+/// Returns the meaning of one to three octal digits at the front, if there is one.
 fn octal(text: &[u8]) -> Option<Meant>
     ensures meant { result ≡ octal_meant (octal_digits 3 text.now) }
     ensures within { IfSome result (λ m. m.more ≤ length text.now) }
@@ -126,7 +126,7 @@ fn letter_meaning(char: u8) -> u8
     }
 }
 
-/// What follows a `\`: one to three octal digits, or one character.
+/// Reads the part after a `\`: one to three octal digits, or one character.
 fn after_backslash(rest: &[u8]) -> Result<Meant, NotationFault>
     ensures meant { result ≡ the_after_backslash rest.now }
     ensures within { IfOk result (λ m. m.more ≤ length rest.now) }
@@ -144,7 +144,7 @@ fn after_backslash(rest: &[u8]) -> Result<Meant, NotationFault>
     }
 }
 
-/// What follows a `^`: a printable character, of which the lowest five bits count, or a `?` for DEL.
+/// Reads the part after a `^`: a printable character, of which the lowest five bits count, or a `?` for DEL.
 fn after_caret(rest: &[u8]) -> Result<Meant, NotationFault>
     ensures meant { result ≡ the_after_caret rest.now }
     ensures within { IfOk result (λ m. m.more ≤ length rest.now) }
@@ -162,7 +162,7 @@ fn after_caret(rest: &[u8]) -> Result<Meant, NotationFault>
     })
 }
 
-/// What the first character means with those after it. A `^` right after a `%` is the character itself, since `%^` is an
+/// Returns the meaning of the first character with those after it. A `^` right after a `%` is the character itself, since `%^` is an
 /// operator.
 pub(crate) fn meaning(after_percent: bool, text: &[u8]) -> Result<Meant, NotationFault>
     ensures meant { result ≡ meant_at after_percent text.now }

@@ -1,4 +1,4 @@
-//! What an expansion that succeeds returns.
+//! The result of an expansion that succeeds.
 
 /// How an expansion went: its counts are exact, those of the one path that the tests choose. C sees them in this order.
 #[repr(C)]

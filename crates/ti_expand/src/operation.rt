@@ -9,7 +9,7 @@ ghost use Rattle.ti_expand.specs.inner.Slots.{values_on};
 use crate::stack::Stack;
 use ti_cap::Op;
 
-/// What an operation makes of the two numbers that were popped.
+/// Returns the result of an operation on the two numbers that were popped.
 #[inline(always)]
 pub fn apply(op: Op, left: i32, right: i32) -> i32
     ensures { result ≡ combine op left right }

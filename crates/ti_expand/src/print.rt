@@ -1,4 +1,4 @@
-//! What `%d`, `%o`, `%x`, `%X` and `%s` print, written straight into the caller's slice: the bytes are those of
+//! The output of `%d`, `%o`, `%x`, `%X` and `%s`, written straight into the caller's slice: the bytes are those of
 //! `print_of_number` and `print_of_text`, and no value needs more of them than the format's size.
 
 ghost use Rattle.std.specs.Prelude.{◌≡◌, ◌≢◌, ◌+◌, ◌-◌, ◌<◌, ◌≤◌, ◌++◌, length, take, drop, replicate, codes};

@@ -1,4 +1,4 @@
-//! What a pass that goes a token at a time returns.
+//! The result of a pass that goes a token at a time.
 
 use ti_cap::Token;
 

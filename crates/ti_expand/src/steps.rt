@@ -153,7 +153,7 @@ impl<'r, 'p, 'a> Steps<'r, 'p, 'a> {
         self.machine.stack()
     }
 
-    /// What was written so far.
+    /// Returns the output so far.
     pub fn output(&self) -> &[u8]
         ensures { result.now ≡ self.now.state.output }
     {

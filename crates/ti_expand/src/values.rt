@@ -1,4 +1,4 @@
-//! What parameters and the stack hold.
+//! The values of parameters and of the stack.
 
 /// A number of 32 bits, or a text that is lent.
 #[derive(Clone, Copy, Debug)]

@@ -1,6 +1,6 @@
 //! Items of an entry as text, as `infocmp` lists them.
 
-/// What an item says of a capability.
+/// The value of a capability in an item.
 #[derive(Clone, Copy)]
 pub enum Said<'a> {
     Yes,

@@ -1,4 +1,4 @@
-//! What the tests of more than one crate share: rows as lines of a text, entries as bytes and items of them as text, capabilities with what they write,
+//! Shared by the tests of several crates: rows as lines of a text, entries as bytes and items of them as text, capabilities with what they write,
 //! traces as text, and readers and writers that go in small steps, are interrupted and fail. It has no tests of its own.
 #![tactic(auto)]
 

@@ -42,7 +42,7 @@ enum ByteSoFar {
     Octal(u8, u8),
 }
 
-/// What a character adds: the part that is read now, and a byte that is whole.
+/// Reads a character: the part that is read now, and a byte that is whole.
 fn read_character(part: ByteSoFar, character: u8) -> (ByteSoFar, Option<u8>) {
     match (part, character) {
         (ByteSoFar::Whole, b'\\') => (ByteSoFar::Backslash, None),
@@ -136,7 +136,7 @@ pub fn are_shown<D: Display>(alloc: Global, values: &[(D, &str)]) -> bool {
     is_each
 }
 
-/// What a row gives.
+/// The values of a row.
 #[derive(Clone, Copy)]
 pub struct Given<'a, 'w> {
     /// All of it.

@@ -129,7 +129,7 @@ impl<A: Allocator> Printer<A> {
         }
     }
 
-    /// What it printed.
+    /// Returns the printed bytes.
     ///
     /// # Errors
     ///

@@ -1,4 +1,4 @@
-//! What is shown of an entry: rows, of which lines and objects of JSON show the same.
+//! The rows of an entry, of which lines and objects of JSON show the same.
 
 ghost use Rattle.std.specs.Prelude.{◌≡◌};
 ghost use Rattle.ti_words.specs.Items.{item_value};
@@ -7,7 +7,7 @@ ghost use Rattle.ti_json.specs.Rows.{content_of, content_value, is_absent as the
 use ti_cap::CapRefused;
 use ti_words::{Flag, Item, Number, Subject, Text, Width};
 
-/// What a row is about.
+/// The topic of a row.
 #[derive(Clone, Copy)]
 pub enum Topic<'a> {
     /// The format of the entry.
@@ -18,7 +18,7 @@ pub enum Topic<'a> {
     Capability(Subject<'a>),
 }
 
-/// What an entry has in place of a value.
+/// The state of a capability without a value.
 #[derive(Clone, Copy)]
 pub enum ValueState {
     /// Nothing.
@@ -42,7 +42,7 @@ impl ValueState {
     }
 }
 
-/// What a row says of its topic.
+/// The content of a row.
 #[derive(Clone, Copy)]
 pub enum Content<'a> {
     /// There is no value.
@@ -57,7 +57,7 @@ pub enum Content<'a> {
     Names(&'a [u8]),
     /// The bytes of a text.
     Text(&'a [u8]),
-    /// What a text without a fault needs as a capability.
+    /// The limits of a text, which as a capability has no fault.
     Limits {
         /// The most values on its stack.
         depth: usize,
@@ -69,7 +69,7 @@ pub enum Content<'a> {
 }
 
 impl<'a> Content<'a> {
-    /// What an entry has of a capability.
+    /// The content of an item.
     #[inline(always)]
     pub fn of(item: Item<'a>) -> Content<'a>
         ensures { content_value result ≡ content_of (item_value item.entry) }

@@ -1,6 +1,6 @@
 //! The checks of single bytes, and of the texts and names of a table.
 //!
-//! What each function returns is the verdict of the checks that its clause names, whose prefixes are there. Whether texts
+//! Each function returns the verdict of the checks that its clause names, whose prefixes are there. Whether texts
 //! have their NULs is decided for all of them from one look for the last NUL of the table.
 
 ghost use Rattle.std.specs.Prelude.{◌≡◌, ◌+◌, ◌*◌, ◌<◌, ◌≤◌, ◌^◌, ◌∷◌, [], length, map, IsTrue};

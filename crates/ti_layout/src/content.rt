@@ -1,4 +1,4 @@
-//! What a part says at its places: its capabilities, and their names. Of unchecked bytes it says nothing of use.
+//! The capabilities and names of a part, by their places. Of unchecked bytes they mean nothing.
 
 ghost use Rattle.std.specs.Prelude.{◌≡◌, ◌+◌, ◌-◌, ◌*◌, ◌<◌, ◌≤◌, ◌↔◌, get_or, length, slice_get, slice_range, IsTrue};
 ghost use Rattle.std.specs.Option.{option_map};

@@ -8,7 +8,7 @@ ghost use Rattle.std.specs.Prelude.{◌≡◌};
 use std::fmt;
 use thiserror::Error;
 
-/// What is wrong with the bytes of an entry. As an error it prints its name.
+/// Why bytes are no entry. As an error it prints its name.
 #[derive(Clone, Copy, Debug, PartialEq, Eq)]
 pub enum Fault {
     /// The bytes end before a section does.

@@ -12,7 +12,7 @@ use crate::word::{count_at, numbers_size};
 use ti_base::MOST_ENTRY_BYTES;
 use ti_words::{Kind, Width, width_of_magic};
 
-/// What a header says of its part. The flags come first, from `flags_from` on, and then the numbers, the offsets of the
+/// The sizes of a part, from its header. The flags come first, from `flags_from` on, and then the numbers, the offsets of the
 /// texts, those of the names, and the string table.
 #[derive(Clone, Copy, Debug, PartialEq, Eq)]
 pub struct Part {

@@ -19,7 +19,7 @@ use crate::part::{Part, pad_end};
 use crate::word::{number_word_at, word_at};
 use ti_words::{Width, flag_of, number_size};
 
-/// What the items of a section are.
+/// The items of a section.
 #[derive(Clone, Copy)]
 pub(crate) enum SectionItem {
     /// Words that are not negative, and the fault of one that is.

@@ -29,7 +29,7 @@ pub struct Stage {
     pub(crate) items: SectionItems,
     pub(crate) standard: Part,
     pub(crate) extended: Part,
-    /// What the offsets of the extended names are counted from.
+    /// The place from which the offsets of the extended names are counted.
     pub(crate) base: usize,
 }
 
@@ -254,7 +254,7 @@ impl Stage {
         self.extended
     }
 
-    /// What the offsets of the extended names are counted from, as far as it is known by then.
+    /// Returns the place from which the offsets of the extended names are counted, as far as it is known by then.
     pub fn base(&self) -> usize
         ensures { result ≡ self.now.base }
     {

@@ -93,7 +93,7 @@ fn until_far_nul(bytes: &[u8]) -> &[u8]
     }
 }
 
-/// What an offset says of a table.
+/// Returns the value at an offset of a table.
 pub(crate) fn text_of<'a>(table: &'a [u8], offset: i16) -> Text<'a>
     ensures { text_value result ≡ text_of_word table.now offset }
 {

@@ -1,11 +1,12 @@
 -- Worked rows of the command line.
-use Rattle.std.proofs.Common.{◌≡◌, arith, List, [], ◌∷◌, true, false, map, refl}
+use Rattle.std.proofs.Common.{◌≡◌, ◌<◌, ◌∙◌, arith, List, [], ◌∷◌, true, false, ap, get_or, inl, inr, map, refl, sym}
 use Rattle.std.specs.Prelude.{None, Some, ℕ, codes, filter, pos}
 use Rattle.clap.specs.Facts.{explicit_source}
 use Rattle.clap.specs.Words.{Row, Text}
 use Rattle.clap.proofs.OnLiterals.{clap_on_literals}
 use Rattle.ti_names.specs.NameLists.{all_flags, all_numbers, all_texts}
-use Rattle.ti_line.specs.Fits.{Fit, IsMisfit, counted}
+use Rattle.ti_line.specs.Fits.{Fit, IsCounted, IsMisfit}
+use Rattle.ti_line.specs.TextLabels.{IsLabel, IsTextLabel}
 use Rattle.ti_line.specs.declared.given.Param.{Param}
 use Rattle.ti_line.specs.declared.given.Param.TheVariants.{Either, Word}
 use Rattle.ti_line.specs.declared.no_request.LineFault.TheVariants.{NoNumber, Surplus}
@@ -86,6 +87,11 @@ lint_row : IsReadAs (codes "ti" ∷ codes "lint" ∷ codes "a" ∷ []) Lint ((co
 unfolding clap_on_literals
 lint_row = (_, (refl, refl), refl)
 
+-- `ti lint --explain layout`
+explain_row : IsReadAs (codes "ti" ∷ codes "lint" ∷ codes "--explain" ∷ codes "layout" ∷ []) Lint ((codes "explain", codes "true" ∷ []) ∷ (codes "FILE", codes "layout" ∷ []) ∷ [])
+unfolding clap_on_literals
+explain_row = (_, (refl, refl), refl)
+
 -- `ti diff a b`
 diff_row : IsReadAs (codes "ti" ∷ codes "diff" ∷ codes "a" ∷ codes "b" ∷ []) Diff ((codes "FILE", codes "a" ∷ codes "b" ∷ []) ∷ [])
 unfolding clap_on_literals
@@ -149,37 +155,58 @@ word text = Word (record { ref_ptr = (0, 0); now = text })
 abbrev number : ℕ → Text → Param
 number n text = Either (pos n) (record { ref_ptr = (0, 0); now = text })
 
--- terminfo(5) gives `cup`, the text at 10, two parameters, by its long name too; to `bel` and to an own name it gives no count
-cup_row : counted (codes "cup") ≡ Some (10, 2)
-unfolding all_flags all_numbers all_texts
-cup_row = refl
+-- `#10` is a label of 10
+ten : IsLabel (codes "#10") 10
+ten = (codes "10", refl, (omega arith, (omega arith, (omega arith, tt))), omega arith, refl)
 
-long_row : counted (codes "cursor_address") ≡ Some (10, 2)
-unfolding all_flags all_numbers all_texts
-long_row = refl
+-- a label begins with `#` or with `t`
+no_label : (name : List ℕ) (first : ℕ) → get_or name 0 0 ≡ first → 35 < first → first < 116 → (index : ℕ) → ¬ IsTextLabel name index
+no_label name first is low high index (inl (digits, same, numeral, few, value)) =
+    let mark : 35 ≡ first = sym (ap (λ ws. get_or ws 0 0) same) ∙ is in absurd (omega (arith, mark, low))
+no_label name first is low high index (inr (label, same, rest)) =
+    let letter : 116 ≡ first = sym (ap (λ ws. get_or ws 0 0) same) ∙ is in absurd (omega (arith, letter, high))
 
-bel_row : counted (codes "bel") ≡ None
+-- terminfo(5) gives `cup`, the text at 10, two parameters, by its long name and by its label too; to `bel` and to an own name
+-- it gives no count
+cup_counts : IsCounted (codes "cup") (Some (10, 2))
 unfolding all_flags all_numbers all_texts
-bel_row = refl
+cup_counts = (Some 10, inr (no_label (codes "cup") 99 refl (omega arith) (omega arith), refl), refl)
 
-own_row : counted (codes "E3") ≡ None
+long_counts : IsCounted (codes "cursor_address") (Some (10, 2))
 unfolding all_flags all_numbers all_texts
-own_row = refl
+long_counts = (Some 10, inr (no_label (codes "cursor_address") 99 refl (omega arith) (omega arith), refl), refl)
+
+mark_counts : IsCounted (codes "#10") (Some (10, 2))
+unfolding all_texts
+mark_counts = (Some 10, inl (10, inl ten, refl), refl)
+
+label_counts : IsCounted (codes "text#10") (Some (10, 2))
+unfolding all_texts
+label_counts = (Some 10, inl (10, inr (codes "#10", refl, ten), refl), refl)
+
+bel_has_no_count : IsCounted (codes "bel") None
+unfolding all_flags all_numbers all_texts
+bel_has_no_count = (Some 1, inr (no_label (codes "bel") 98 refl (omega arith) (omega arith), refl), refl)
+
+own_has_no_count : IsCounted (codes "E3") None
+unfolding all_flags all_numbers all_texts
+own_has_no_count = (None, inr (no_label (codes "E3") 69 refl (omega arith) (omega arith), refl), refl)
 
 -- `cup 4 9`, `cup 4 9 entry` and `cup 4 red`
 fit_row : Fit (codes "cup") 2 (number 4 (codes "4") ∷ number 9 (codes "9") ∷ [])
 unfolding all_flags all_numbers all_texts
-fit_row = (omega arith, refl)
+fit_row = (Some (10, 2), cup_counts, (omega arith, refl))
 
 surplus_row : IsMisfit (codes "cup") 3 (number 4 (codes "4") ∷ number 9 (codes "9") ∷ word (codes "entry") ∷ []) (Surplus 10 2 3 true)
 unfolding all_flags all_numbers all_texts
-surplus_row = (refl, omega arith, refl, refl)
+surplus_row = (cup_counts, omega arith, refl, refl)
 
 no_number_row : IsMisfit (codes "cup") 2 (number 4 (codes "4") ∷ word (codes "red") ∷ []) (NoNumber 10 2)
 unfolding all_flags all_numbers all_texts
-no_number_row = (2, refl, omega arith, refl)
+no_number_row = (2, cup_counts, omega arith, refl)
 
 -- `pfkey 1 text`
 key_row : Fit (codes "pfkey") 2 (number 1 (codes "1") ∷ word (codes "text") ∷ [])
 unfolding all_flags all_numbers all_texts
-key_row = (omega arith, refl)
+key_row =
+    (Some (115, 2), (Some 115, inr (no_label (codes "pfkey") 112 refl (omega arith) (omega arith), refl), refl), (omega arith, refl))

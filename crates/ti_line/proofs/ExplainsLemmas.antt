@@ -27,4 +27,5 @@ explains to words ks k (no_request.Refused message) e (inl m) t = absurd (t.1 m)
 explains to words ks k (no_request.Refused message) e (inr a) t =
     subst (λ (l : Kinds). list_any (λ x. not (is_help x)) l ≡ true) e (any_of (λ x. not (is_help x)) k ks a (ap not t.0))
 explains to words ks k (no_request.Fault why) e h t = absurd t
+explains to words ks k (no_request.Explanation named) e h t = absurd t
 explains to words ks k no_request.Memory e h t = tt

@@ -6,3 +6,4 @@ pub mod FaultlessLemmas
 pub mod ExplainsLemmas
 pub mod Examples
 pub mod AreParamsLemmas
+pub mod IsLabelLemmas

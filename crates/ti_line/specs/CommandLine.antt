@@ -127,12 +127,12 @@ check_app =
     with_rules (new_app (codes "check"))
     (escape_rule ∷ all_names_rule ∷ flag_rule (codes "faults") ∷ json_rule ∷ entry_rule ∷ files_rule ∷ [])
 
--- `lint [--all] [--untrusted] [--summary] [--json] [--color WHEN] [--entry FILE] [FILE..]`
+-- `lint [--all] [--untrusted] [--summary] [--explain] [--json] [--color WHEN] [--entry FILE] [FILE..]`
 abbrev pub lint_app : App
 lint_app =
     with_rules (new_app (codes "lint"))
-    (flag_rule (codes "all") ∷ flag_rule (codes "untrusted") ∷ flag_rule (codes "summary") ∷ json_rule ∷ color_rule
-    ∷ entry_rule ∷ files_rule ∷ [])
+    (flag_rule (codes "all") ∷ flag_rule (codes "untrusted") ∷ flag_rule (codes "summary") ∷ flag_rule (codes "explain")
+    ∷ json_rule ∷ color_rule ∷ entry_rule ∷ files_rule ∷ [])
 
 -- `expand NAME [--hex] [--escape] [--all-names] [--rate N] [--lines N] [--xon] [--entry FILE] [PARAM..]`
 abbrev pub expand_app : App

@@ -2,6 +2,7 @@ pub mod CommandLine
 pub mod inner
 pub mod Options
 pub mod Params
+pub mod TextLabels
 pub mod Fits
 pub mod Requests
 pub mod Message

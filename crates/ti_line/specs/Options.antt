@@ -11,6 +11,8 @@ use Rattle.ti_escape.specs.Forms.{formed}
 use Rattle.ti_lint.specs.declared.level.Level.{Level}
 use Rattle.ti_lint.specs.declared.level.Level.TheVariants as scopes
 use Rattle.ti_lint.specs.declared.lint_options.LintOptions.{LintOptions}
+use Rattle.ti_trace.specs.declared.options.TraceRows.{TraceRows}
+use Rattle.ti_trace.specs.declared.options.TraceRows.TheVariants as trace_rows
 use Rattle.ti_line.specs.declared.destination.Destination.{Destination}
 use Rattle.ti_line.specs.declared.destination.Destination.TheVariants as destinations
 use Rattle.ti_line.specs.declared.options.Comparison.{Comparison}
@@ -134,10 +136,16 @@ abbrev pub lint_action : Bool → LintOptions → Color → EntryAction
 lint_action true options color = of_entry.Json (documents.Findings options)
 lint_action false options color = of_entry.Lint options color
 
--- what `trace` asks for by `--json` and `--escape`
-abbrev pub trace_form_of : Bool → Bool → Color → TraceForm
-trace_form_of true escape color = trace_forms.Json
-trace_form_of false escape color = trace_forms.Lines (form_of escape) color
+-- at a terminal a trace has runs of bytes joined
+abbrev pub trace_rows_at : Bool → TraceRows
+trace_rows_at true = trace_rows.Joined
+trace_rows_at false = trace_rows.Each
+
+-- what `trace` asks for by `--json` and `--escape`, and by whether it goes to a terminal
+abbrev pub trace_form_of : Bool → Bool → Bool → Color → TraceForm
+trace_form_of true escape terminal color = trace_forms.Json
+trace_form_of false escape terminal color =
+    trace_forms.Lines (record { form = form_of escape; color = color; rows = trace_rows_at terminal })
 
 -- what `diff` asks for by `--json`, and by whether it goes to a terminal
 abbrev pub comparison_of : Bool → Bool → Color → Comparison

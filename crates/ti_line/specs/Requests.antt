@@ -76,6 +76,13 @@ is_all_names = flag_in (codes "all-names")
 abbrev pub is_json : List Row → Bool
 is_json = flag_in (codes "json")
 
+-- findings are to be explained, which excludes JSON
+abbrev pub is_explain : List Row → Bool
+is_explain = flag_in (codes "explain")
+
+abbrev pub is_json_explained : List Row → Bool
+is_json_explained rows = is_json rows && is_explain rows
+
 -- the form of an output, and the two that exclude each other
 abbrev pub output_in : List Row → Output
 output_in rows = output_of (flag_in (codes "hex") rows) (is_escape rows)
@@ -118,7 +125,7 @@ pair_in = words_in (codes "FILE")
 abbrev pub IsTraceForm : Destination → List Row → TraceForm → Type 0
 IsTraceForm to rows form =
     (is_json rows && is_escape rows ≡ false)
-    × ((c : Color) × (color_in to rows ≡ Some c) × (form ≡ trace_form_of (is_json rows) (is_escape rows) c))
+    × ((c : Color) × (color_in to rows ≡ Some c) × (form ≡ trace_form_of (is_json rows) (is_escape rows) (is_terminal to) c))
 
 abbrev pub IsNoTraceForm : Destination → List Row → LineFault → Type 0
 IsNoTraceForm to rows fault.JsonForm = is_json rows && is_escape rows ≡ true
@@ -158,7 +165,8 @@ Asks to Check rows action =
     × (action ≡ Entry (check_action which (is_json rows) (is_all_names rows) (is_escape rows) (is_terminal to)))
 Asks to Lint rows action =
     let options = lint_options (flag_in (codes "all") rows) (flag_in (codes "untrusted") rows) in
-    (c : Color) × (color_in to rows ≡ Some c) × (action ≡ Entry (lint_action (is_json rows) options c))
+    (is_json_explained rows ≡ false)
+    × ((c : Color) × (color_in to rows ≡ Some c) × (action ≡ Entry (lint_action (is_json rows) options c)))
 Asks to Expand rows action =
     (has_both_forms rows ≡ false)
     × ((e : code.Expand) × (action ≡ Entry (of_entry.Expand e)) × AreParams (params_in rows) e.parameters.values
@@ -178,11 +186,16 @@ Asks to Diff rows action =
     × (d.likeness ≡ likeness_of (flag_in (codes "expand") rows))
     × ((c : Color) × (color_in to rows ≡ Some c) × (d.form ≡ comparison_of (is_json rows) (is_terminal to) c)))
 
--- a request is what a line asks for, of the files that the words name, with a summary if they have `--summary`
+-- a request is what a line without `--explain` asks for, of the files that the words name, with a summary if they have `--summary`
 abbrev pub IsRequest : Destination → List Text → Command → List Row → Request → Type 0
 IsRequest to words command rows request =
     Asks to command rows request.action × (texts_of request.files.items ≡ files_of words)
-    × (request.has_summary ≡ has_summary words)
+    × (request.has_summary ≡ has_summary words) × (is_explain rows ≡ false)
+
+-- what a line with `--explain` asks for: to explain the findings with its words
+abbrev pub AsksToExplain : Destination → Command → List Row → List Text → Type 0
+AsksToExplain to command rows words =
+    (is_explain rows ≡ true) × ((action : Action) × Asks to command rows action) × (words ≡ words_in (codes "FILE") rows)
 
 -- why words give the capability with a name no parameters: they stand for none, or for some that do not fit it
 abbrev pub HasNoParameters : List ℕ → List Text → LineFault → Type 0
@@ -210,7 +223,8 @@ HasFault to Cap rows (fault.Words why) =
 HasFault to Trace rows why = HasTraceFault to rows (first_of (codes "NAME") rows) why
 HasFault to Show rows fault.JsonForm = has_json_form rows ≡ true
 HasFault to Check rows fault.JsonForm = has_json_form rows ≡ true
-HasFault to Lint rows fault.ColorWord = color_in to rows ≡ None
+HasFault to Lint rows fault.JsonExplained = is_json_explained rows ≡ true
+HasFault to Lint rows fault.ColorWord = (is_json_explained rows ≡ false) × (color_in to rows ≡ None)
 HasFault to Expand rows fault.BothForms = has_both_forms rows ≡ true
 HasFault to Expand rows (fault.Words why) =
     (has_both_forms rows ≡ false) × MeanNone IsParam AreParams (params_in rows) why
@@ -229,10 +243,11 @@ HasFault _ _ _ _ = ⊥
 abbrev pub IsAnswered : Destination → Command → List Row → Result Action LineFault → Type 0
 IsAnswered to command rows answer = MatchResult answer (Asks to command rows) (HasFault to command rows)
 
--- and words that are read as it the same way, with the files that they name, or with out of memory
+-- and words that are read as it the same way, with the files that they name, or with words to explain, or with out of memory
 abbrev pub IsReadAs : Destination → List Text → Command → List Row → Result Request NoRequest → Type 0
 IsReadAs to words command rows (Ok request) = IsRequest to words command rows request
 IsReadAs to words command rows (Err (no_request.Fault why)) = HasFault to command rows why
+IsReadAs to words command rows (Err (no_request.Explanation named)) = AsksToExplain to command rows (texts_of named.items)
 IsReadAs to words command rows (Err why) = why ≡ no_request.Memory
 
 -- why the words give no request; out of memory says nothing of them
@@ -241,6 +256,9 @@ Explains to words (no_request.Help message) = AsksForHelp words
 Explains to words (no_request.Refused message) = IsRefused words
 Explains to words (no_request.Fault why) =
     (command : Command) × (rows : List Row) × Reads words command rows × HasFault to command rows why
+Explains to words (no_request.Explanation named) =
+    (command : Command) × (rows : List Row) × Reads words command rows
+    × AsksToExplain to command rows (texts_of named.items)
 Explains to words no_request.Memory = Unit {0}
 
 -- what is said of the words is not empty

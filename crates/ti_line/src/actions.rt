@@ -1,4 +1,4 @@
-//! What each subcommand requests by its values.
+//! The request of each subcommand, by its values.
 
 ghost use Rattle.std.specs.Prelude.{◌≡◌, IfSome, IsSome, MatchResult, Some, option_map};
 ghost use Rattle.ti_line.specs.CommandLine as commands;
@@ -23,7 +23,7 @@ use crate::request::{
 };
 use clap::ArgMatches;
 
-/// What `cap` requests.
+/// Returns the request of `cap`.
 fn cap<'a>(given: &ArgMatches<'a>) -> Result<Action<'a>, LineFault>
     ensures { (to : Destination) → IsAnswered to commands.Cap (given_rows given.now) result }
 {
@@ -37,7 +37,7 @@ fn cap<'a>(given: &ArgMatches<'a>) -> Result<Action<'a>, LineFault>
     Ok(input_action(flag(given, "source"), action))
 }
 
-/// What `trace` requests of the capability with a name, in place of which no notation is to be read.
+/// Returns the request of `trace` on the capability with a name, in place of which no notation is to be read.
 fn trace_of<'a>(
     to: Destination,
     given: &ArgMatches<'a>,
@@ -57,7 +57,7 @@ fn trace_of<'a>(
     })))
 }
 
-/// What `trace` requests of the capability that is read.
+/// Returns the request of `trace` on the capability that is read.
 fn trace_input<'a>(to: Destination, given: &ArgMatches<'a>) -> Result<Action<'a>, LineFault>
     ensures { let rows = given_rows given.now in
         MatchResult result (AsksToTrace to rows None) (HasTraceFault to rows None) }
@@ -75,7 +75,7 @@ fn trace_input<'a>(to: Destination, given: &ArgMatches<'a>) -> Result<Action<'a>
     Ok(input_action(flag(given, "source"), action))
 }
 
-/// What `trace` requests.
+/// Returns the request of `trace`.
 fn trace<'a>(to: Destination, given: &ArgMatches<'a>) -> Result<Action<'a>, LineFault>
     ensures { IsAnswered to commands.Trace (given_rows given.now) result }
 {
@@ -85,7 +85,7 @@ fn trace<'a>(to: Destination, given: &ArgMatches<'a>) -> Result<Action<'a>, Line
     }
 }
 
-/// What `show` requests.
+/// Returns the request of `show`.
 fn show<'a>(to: Destination, given: &ArgMatches<'a>) -> Result<Action<'a>, LineFault>
     ensures { IsAnswered to commands.Show (given_rows given.now) result }
 {
@@ -94,7 +94,7 @@ fn show<'a>(to: Destination, given: &ArgMatches<'a>) -> Result<Action<'a>, LineF
     Ok(Action::Entry(show_action(json, all_names, escape, to.is_terminal())))
 }
 
-/// What `check` requests.
+/// Returns the request of `check`.
 fn check<'a>(to: Destination, given: &ArgMatches<'a>) -> Result<Action<'a>, LineFault>
     ensures { IsAnswered to commands.Check (given_rows given.now) result }
 {
@@ -104,7 +104,7 @@ fn check<'a>(to: Destination, given: &ArgMatches<'a>) -> Result<Action<'a>, Line
     Ok(Action::Entry(check_action(which, json, all_names, escape, to.is_terminal())))
 }
 
-/// What `expand` requests.
+/// Returns the request of `expand`.
 fn expand<'a>(given: &ArgMatches<'a>) -> Result<Action<'a>, LineFault>
     requires { HasNameAndNumbers (given_rows given.now) }
     ensures { (to : Destination) → IsAnswered to commands.Expand (given_rows given.now) result }
@@ -124,7 +124,7 @@ fn expand<'a>(given: &ArgMatches<'a>) -> Result<Action<'a>, LineFault>
     })))
 }
 
-/// What `convert` requests.
+/// Returns the request of `convert`.
 fn convert<'a>(to: Destination, given: &ArgMatches<'a>) -> Result<Action<'a>, LineFault>
     ensures { IsAnswered to commands.Convert (given_rows given.now) result }
 {
@@ -173,7 +173,7 @@ fn is_input_twice(words: &[&str]) -> bool
     }
 }
 
-/// What `diff` requests.
+/// Returns the request of `diff`.
 fn diff<'a>(to: Destination, given: &ArgMatches<'a>) -> Result<Action<'a>, LineFault>
     ensures { IsAnswered to commands.Diff (given_rows given.now) result }
 {
@@ -189,16 +189,19 @@ fn diff<'a>(to: Destination, given: &ArgMatches<'a>) -> Result<Action<'a>, LineF
     }
 }
 
-/// What `lint` requests.
+/// Returns the request of `lint`.
 fn lint<'a>(to: Destination, given: &ArgMatches<'a>) -> Result<Action<'a>, LineFault>
     ensures { IsAnswered to commands.Lint (given_rows given.now) result }
 {
+    if flag(given, "json") && flag(given, "explain") {
+        return Err(LineFault::JsonExplained);
+    }
     let color = color(to, given)?;
     let options = lint_options(flag(given, "all"), flag(given, "untrusted"));
     Ok(Action::Entry(lint_action(flag(given, "json"), options, color)))
 }
 
-/// What `get` requests.
+/// Returns the request of `get`.
 fn get<'a>(given: &ArgMatches<'a>) -> Result<Action<'a>, LineFault>
     requires { HasNameAndNumbers (given_rows given.now) }
     ensures { (to : Destination) → IsAnswered to commands.Get (given_rows given.now) result }
@@ -213,7 +216,7 @@ fn get<'a>(given: &ArgMatches<'a>) -> Result<Action<'a>, LineFault>
     })))
 }
 
-/// What a subcommand and its values ask for, by where results go.
+/// Returns the request of a subcommand, by its values and by where results go.
 pub(crate) fn action_of<'a>(
     to: Destination,
     command: &str,

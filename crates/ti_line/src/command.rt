@@ -6,13 +6,13 @@ ghost use Rattle.ti_line.specs.CommandLine.{all_names_rule, cap_app, check_app, 
 ghost use Rattle.ti_line.specs.inner.Command.{Makes};
 
 use crate::help::{
-    ALL, ALL_NAMES, ANY_NAME, ANY_PARAMS, COLOR, ESCAPE, EXPAND, FAULTS, FILE, FILES, FORCE, HEX,
-    JSON, LINES, NARROW, OF, PAIR, PARAMS, RATE, SOURCE, STATUSES, SUMMARY, TEXT_NAME,
-    TRACE_PARAMS, UNTRUSTED, WIDE, XON,
+    ALL, ALL_NAMES, ANY_NAME, ANY_PARAMS, COLOR, ESCAPE, EXPAND, EXPLAIN, FAULTS, FILE, FILES,
+    FORCE, HEX, JSON, LINES, NARROW, OF, PAIR, PARAMS, RATE, SOURCE, STATUSES, SUMMARY, TEXT_NAME,
+    TRACE_PARAMS, UNTRUSTED, VERSION_AND_KIT, WIDE, XON,
 };
 use clap::{Arg, ArgAction, Command, value_parser};
 use std::alloc::{AllocError, Global};
-use ti_base::{GREATEST_RATE, MOST_LINES, VERSION};
+use ti_base::{GREATEST_RATE, MOST_LINES};
 
 /// An option without a value.
 fn flag<'a>(alloc: Global, name: &'a str, help: &'a str) -> Arg<'a>
@@ -226,15 +226,16 @@ fn lint<'a>(alloc: Global) -> Result<Command<'a>, AllocError>
     let command = new_command(
         alloc,
         "lint",
-        "ti lint [OPTIONS] [FILE]...",
+        "ti lint [OPTIONS] [FILE]...\n       ti lint --explain [WORD]...",
         "Report mistakes in entries; status 1 if there are any",
-        "Example, all entries of a directory:\n  ti lint /lib/terminfo",
+        "Example, all entries of a directory:\n  ti lint /lib/terminfo\n\nWhat the words of findings mean:\n  ti lint --explain stack-underflow",
     );
     let untrusted = flag(alloc, "untrusted", UNTRUSTED);
     let command = with_two(command, flag(alloc, "all", ALL), untrusted);
-    let command = with_two(command, flag(alloc, "summary", SUMMARY), json(alloc));
-    let command = with_two(command, color(alloc), entry(alloc));
-    with_one(command, files(alloc, FILES))
+    let explain = flag(alloc, "explain", EXPLAIN);
+    let command = with_two(command, flag(alloc, "summary", SUMMARY), explain);
+    let command = with_two(command, json(alloc), color(alloc));
+    with_two(command, entry(alloc), files(alloc, FILES))
 }
 
 fn get<'a>(alloc: Global) -> Result<Command<'a>, AllocError>
@@ -348,7 +349,7 @@ fn start<'a>(alloc: Global) -> Result<Command<'a>, AllocError>
     Ok(
         Command::new(alloc, "ti")
             .about("Read, check, compare, expand and write compiled terminfo entries")
-            .version(VERSION)
+            .version(VERSION_AND_KIT)
             .subcommand_required(true)
             .after_help(STATUSES),
     )

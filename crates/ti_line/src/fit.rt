@@ -1,32 +1,45 @@
 //! Whether parameters fit the capability that terminfo(5) names.
 
 ghost use Rattle.std.specs.Prelude.{◌≡◌, MatchResult, length};
-ghost use Rattle.ti_line.specs.Fits.{Fit, IsMisfit, counted as the_counted, first_word as the_first_word, is_word as the_is_word, takes_texts as the_takes_texts};
+ghost use Rattle.ti_line.specs.Fits.{Fit, IsCounted, IsMisfit, IsTextCalled, first_word as the_first_word, is_word as the_is_word, takes_texts as the_takes_texts};
 
 use crate::given::Param;
+use crate::label::text_of_label;
 use crate::no_request::LineFault;
-use ti_names::{Class, class_of, find_short_or_long};
+use ti_names::{Class, NameTable, class_of, find_short_or_long};
 use ti_words::Kind;
 
-/// The index of the text of terminfo(5) that has a name, and how many parameters it has there, if it has a count.
-fn counted(name: &str) -> Option<(usize, u8)>
-    ensures { result ≡ the_counted name.now }
+/// The index of the text that a name or a label means.
+fn text_called(name: &str) -> Option<usize>
+    ensures { IsTextCalled name.now result }
 {
-    let (kind, text) = find_short_or_long(name.as_bytes())?;
-    match (kind, class_of(text)?) {
-        (Kind::Text, Class::Parameterized(count)) => Some((text, count)),
+    match text_of_label(name) {
+        Some(text) => Some(text),
+        None => match find_short_or_long(name.as_bytes()) {
+            Some((Kind::Text, text)) => Some(text),
+            _ => None,
+        },
+    }
+}
+
+/// The index of the text that a name means, and how many parameters it has in terminfo(5), if it has a count.
+fn counted(name: &str) -> Option<(usize, u8)>
+    ensures { IsCounted name.now result }
+{
+    let text = text_called(name)?;
+    match class_of(text)? {
+        Class::Parameterized(count) => Some((text, count)),
         _ => None,
     }
 }
 
-/// Whether the capability with a name takes texts after its first parameter: a function key, or its label.
-fn takes_texts(name: &str) -> bool
-    ensures { result ≡ the_takes_texts name.now }
+/// Whether a text takes texts after its first parameter: a function key, or its label.
+fn takes_texts(text: usize) -> bool
+    ensures { result ≡ the_takes_texts text }
 {
-    match name {
-        "pfkey" | "pkey_key" | "pfloc" | "pkey_local" | "pfx" | "pkey_xmit" => true,
-        "pln" | "plab_norm" | "pfxl" | "pkey_plab" => true,
-        _ => false,
+    match NameTable::All.text_name(text) {
+        Some(name) => matches!(name, "pfkey" | "pfloc" | "pfx" | "pln" | "pfxl"),
+        None => false,
     }
 }
 
@@ -68,7 +81,7 @@ pub(crate) fn fit(name: &str, words: usize, params: &[Param<'_>]) -> Result<(), 
             is_named,
         });
     }
-    let numbers = if takes_texts(name) {
+    let numbers = if takes_texts(text) {
         &params[..1]
     } else {
         params

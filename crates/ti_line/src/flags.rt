@@ -2,7 +2,7 @@
 
 ghost use Rattle.std.specs.Prelude.{◌≡◌};
 ghost use Rattle.ti_line.specs.Requests.{width_of as the_width_of};
-ghost use Rattle.ti_line.specs.Options.{check_action as the_check_action, comparison_of as the_comparison_of, form_of as the_form_of, input_action as the_input_action, likeness_of as the_likeness_of, lint_action as the_lint_action, lint_options as the_lint_options, list_options as the_list_options, name_table_of as the_name_table_of, naming_of as the_naming_of, output_of as the_output_of, level_of as the_level_of, show_action as the_show_action, trace_form_of as the_trace_form_of, which_verdicts as the_which_verdicts};
+ghost use Rattle.ti_line.specs.Options.{check_action as the_check_action, comparison_of as the_comparison_of, form_of as the_form_of, input_action as the_input_action, likeness_of as the_likeness_of, lint_action as the_lint_action, lint_options as the_lint_options, list_options as the_list_options, name_table_of as the_name_table_of, naming_of as the_naming_of, output_of as the_output_of, level_of as the_level_of, show_action as the_show_action, trace_form_of as the_trace_form_of, trace_rows_at as the_trace_rows_at, which_verdicts as the_which_verdicts};
 
 use crate::options::{
     Comparison, Document, Likeness, ListOptions, NameForm, Naming, Output, TraceForm, Verdicts,
@@ -11,9 +11,10 @@ use crate::request::{Action, CapabilityAction, EntryAction};
 use ti_escape::{Color, Form};
 use ti_lint::{Level, LintOptions};
 use ti_names::NameTable;
+use ti_trace::{TraceOptions, TraceRows};
 use ti_words::Width;
 
-/// What is done with an input by `--source`, which says that it is the notation of a capability.
+/// Returns the work on an input by `--source`, which says that it is the notation of a capability.
 pub fn input_action(source: bool, action: CapabilityAction<'_>) -> Action<'_>
     ensures { result ≡ the_input_action source action.entry }
 {
@@ -24,7 +25,7 @@ pub fn input_action(source: bool, action: CapabilityAction<'_>) -> Action<'_>
     }
 }
 
-/// What `--hex` and `--escape` ask for of an output, of which at most one is given.
+/// Returns the form of an output by `--hex` and `--escape`, of which at most one is given.
 pub fn output_of(hex: bool, escape: bool) -> Output
     ensures { result ≡ the_output_of hex escape }
 {
@@ -35,7 +36,7 @@ pub fn output_of(hex: bool, escape: bool) -> Output
     }
 }
 
-/// What `--all-names` requests.
+/// Returns the table of names by `--all-names`.
 pub fn name_table_of(all_names: bool) -> NameTable
     ensures { result ≡ the_name_table_of all_names }
 {
@@ -46,14 +47,14 @@ pub fn name_table_of(all_names: bool) -> NameTable
     }
 }
 
-/// What `--all` requests of `lint`.
+/// Returns the level of `lint` by `--all`.
 pub fn level_of(all: bool) -> Level
     ensures { result ≡ the_level_of all }
 {
     if all { Level::All } else { Level::Errors }
 }
 
-/// What `--all` and `--untrusted` request of `lint`.
+/// Returns the options of `lint` by `--all` and `--untrusted`.
 pub fn lint_options(all: bool, untrusted: bool) -> LintOptions
     ensures { result ≡ the_lint_options all untrusted }
 {
@@ -63,7 +64,7 @@ pub fn lint_options(all: bool, untrusted: bool) -> LintOptions
     }
 }
 
-/// What `--expand` requests of `diff`.
+/// Returns the likeness of `diff` by `--expand`.
 pub fn likeness_of(expand: bool) -> Likeness
     ensures { result ≡ the_likeness_of expand }
 {
@@ -74,14 +75,14 @@ pub fn likeness_of(expand: bool) -> Likeness
     }
 }
 
-/// What `--escape` requests of the texts of a listing, or of a trace.
+/// Returns the form of the texts of a listing, or of a trace, by `--escape`.
 pub fn form_of(escape: bool) -> Form
     ensures { result ≡ the_form_of escape }
 {
     if escape { Form::Notation } else { Form::Hex }
 }
 
-/// What a listing calls an entry and its capabilities, by its flags, and by whether it goes to a terminal.
+/// Returns the names of an entry and its capabilities in a listing, by its flags, and by whether it goes to a terminal.
 pub fn naming_of(all_names: bool, escape: bool, terminal: bool) -> Naming
     ensures { result ≡ the_naming_of all_names escape terminal }
 {
@@ -105,7 +106,7 @@ pub fn list_options(all_names: bool, escape: bool) -> ListOptions
     }
 }
 
-/// What `show` requests of an entry, which `--json` makes a document. At a terminal its lines are for people: as if
+/// Returns the request of `show`, which `--json` makes a document. At a terminal its lines are for people: as if
 /// `--all-names` and `--escape` were given.
 pub fn show_action<'a>(json: bool, all_names: bool, escape: bool, terminal: bool) -> EntryAction<'a>
     ensures { result ≡ the_show_action json all_names escape terminal }
@@ -117,7 +118,7 @@ pub fn show_action<'a>(json: bool, all_names: bool, escape: bool, terminal: bool
     }
 }
 
-/// What `--faults` requests of `check`.
+/// Returns the verdicts that `check` writes, by `--faults`.
 pub fn which_verdicts(faults: bool) -> Verdicts
     ensures { result ≡ the_which_verdicts faults }
 {
@@ -128,7 +129,7 @@ pub fn which_verdicts(faults: bool) -> Verdicts
     }
 }
 
-/// What `check` requests of an entry, which `--json` makes a document.
+/// Returns the request of `check`, which `--json` makes a document.
 pub fn check_action<'a>(
     which: Verdicts,
     json: bool,
@@ -145,7 +146,7 @@ pub fn check_action<'a>(
     }
 }
 
-/// What `lint` requests of an entry, which `--json` makes a document.
+/// Returns the request of `lint`, which `--json` makes a document.
 pub fn lint_action<'a>(json: bool, options: LintOptions, color: Color) -> EntryAction<'a>
     ensures { result ≡ the_lint_action json options color }
 {
@@ -156,15 +157,29 @@ pub fn lint_action<'a>(json: bool, options: LintOptions, color: Color) -> EntryA
     }
 }
 
+/// The rows of a trace. At a terminal runs of bytes are joined.
+fn trace_rows_at(terminal: bool) -> TraceRows
+    ensures { result ≡ the_trace_rows_at terminal }
+{
+    if terminal {
+        TraceRows::Joined
+    } else {
+        TraceRows::Each
+    }
+}
+
 /// How `trace` writes, by `--json` and `--escape`, which exclude each other.
-pub fn trace_form_of(json: bool, escape: bool, color: Color) -> TraceForm
-    ensures { result ≡ the_trace_form_of json escape color }
+pub fn trace_form_of(json: bool, escape: bool, terminal: bool, color: Color) -> TraceForm
+    ensures { result ≡ the_trace_form_of json escape terminal color }
 {
     if json {
-        TraceForm::Json
-    } else {
-        TraceForm::Lines(form_of(escape), color)
+        return TraceForm::Json;
     }
+    TraceForm::Lines(TraceOptions {
+        form: form_of(escape),
+        color,
+        rows: trace_rows_at(terminal),
+    })
 }
 
 /// How `diff` writes. At a terminal its lines are for people.

@@ -31,7 +31,7 @@ pub struct Given<'a> {
     pub params: [Param<'a>; 9],
 }
 
-/// What a word without a mark gives.
+/// Reads a word without a mark.
 fn unmarked(word: &str) -> Param<'_>
     requires { ¬ IsMarked word.now }
     ensures { IsGiven word.now result }

@@ -1,5 +1,8 @@
 //! The texts of help. A line on an argument has at most 58 characters, so that help fits into 80 columns.
 
+/// The version, and the toolchain that proves the program.
+pub(crate) const VERSION_AND_KIT: &str = "0.3.0 (rattle-kit-13f)";
+
 pub(crate) const PARAMS: &str = "Parameters: n:NUMBER (-2147483648 to 2147483647) or
 s:TEXT; at most nine, a missing one is the number 0";
 
@@ -24,7 +27,7 @@ pub(crate) const TEXT_NAME: &str = "The name of a string, such as cup, or a user
 or #N, the string with index N, such as #10";
 
 pub(crate) const ANY_NAME: &str = "The name: cup, cursor_address or a user-defined name; or
-flag#N, number#N or text#N, the capability with index N";
+flag#N, number#N or text#N, by its index; #N is text#N";
 
 pub(crate) const SOURCE: &str = "Read the string as terminfo(5) writes it, such as
 \\E[%p1%dG; a newline at its end is left out";
@@ -55,6 +58,9 @@ from a stranger";
 
 pub(crate) const SUMMARY: &str = "Write what was looked at on standard error, as is done if
 that is a terminal";
+
+pub(crate) const EXPLAIN: &str = "Explain the findings with these words, in place of reading
+files, or list all words";
 
 pub(crate) const EXPAND: &str = "Ignore differences in spelling, such as %{65} and %'A',
 which expand to the same";

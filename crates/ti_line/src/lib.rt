@@ -12,6 +12,7 @@ mod fit;
 mod flags;
 mod given;
 mod help;
+mod label;
 pub mod laws;
 mod matches;
 mod message;
@@ -21,10 +22,12 @@ mod params;
 mod printable;
 mod read;
 mod request;
+mod tip;
 
 pub use destination::Destination;
 pub use flags::{list_options, naming_of, output_of};
 pub use given::{Given, Param, read_given};
+pub use label::index_of_label;
 pub use message::Message;
 pub use no_request::{LineFault, NoRequest};
 pub use options::{

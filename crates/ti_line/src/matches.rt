@@ -2,7 +2,7 @@
 
 ghost use Rattle.std.specs.Prelude.{◌≡◌, true, false, IfOk, IsSome, MatchResult, Some, codes, option_map};
 ghost use Rattle.clap.specs.Words.{first_of};
-ghost use Rattle.ti_line.specs.CommandLine.{HasNameAndNumbers, files_in, flag_in, is_input as the_is_input, named_files, number_in, params_in};
+ghost use Rattle.ti_line.specs.CommandLine.{HasNameAndNumbers, files_in, flag_in, is_input as the_is_input, named_files, number_in, params_in, words_in};
 ghost use Rattle.ti_line.specs.Fits.{IsGivenTo};
 ghost use Rattle.ti_line.specs.Params.{AreGiven, AreParams, IsGiven, IsGivenBy, IsParam};
 ghost use Rattle.ti_line.specs.Requests.{HasNoParameters, IsNoTraceForm, IsTraceForm, MeanNone, color_in, has_both_forms, has_json_form, is_json, output_in, setting_in, texts_of};
@@ -72,6 +72,18 @@ pub(crate) fn files<'a>(alloc: Global, given: &ArgMatches<'a>) -> Result<Vec<&'a
         files.clear();
     }
     Ok(files)
+}
+
+/// The words whose findings are to be explained.
+pub(crate) fn explained<'a>(
+    alloc: Global,
+    given: &ArgMatches<'a>,
+) -> Result<Vec<&'a str>, AllocError>
+    ensures { IfOk result (λ v. texts_of v.items ≡ words_in (codes "FILE") (given_rows given.now)) }
+{
+    let mut words = Vec::new(alloc);
+    words.extend_from_slice(given.get_strs("FILE").unwrap_or(&[]))?;
+    Ok(words)
 }
 
 /// The parameters.
@@ -147,7 +159,7 @@ pub(crate) fn trace_form(to: Destination, given: &ArgMatches<'_>) -> Result<Trac
     if json && escape {
         return Err(LineFault::JsonForm);
     }
-    Ok(trace_form_of(json, escape, color(to, given)?))
+    Ok(trace_form_of(json, escape, to.is_terminal(), color(to, given)?))
 }
 
 /// Whether `--json` is given, which excludes the options that choose names and forms.

@@ -1,4 +1,4 @@
-//! What `clap` says to the user.
+//! The messages of `clap`.
 
 ghost use Rattle.std.specs.Prelude.{◌≡◌, ◌<◌, IfOk, Some, length};
 ghost use Rattle.ti_line.specs.Message.{message_text};
@@ -9,7 +9,7 @@ use std::fmt;
 /// The text if `clap` says nothing.
 const NOTHING_SAID: &str = "see ti --help\n";
 
-/// What `clap` says to the user: the text of its error.
+/// A message of `clap`: the text of its error.
 #[derive(Debug, Drop)]
 pub struct Message {
     text: String,

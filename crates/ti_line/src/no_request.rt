@@ -13,6 +13,8 @@ use thiserror::Error;
 pub enum LineFault {
     /// An output is to be written in both forms, by `--hex` and `--escape`.
     BothForms,
+    /// Findings are to be explained, and that in JSON, by `--explain` and `--json`.
+    JsonExplained,
     /// A listing or a trace is to be JSON, and to have names or texts in a form, by `--json` and `--escape` or `--all-names`.
     JsonForm,
     /// The word of `--color` is none of `auto`, `always` and `never`.
@@ -55,6 +57,7 @@ impl fmt::Display for LineFault {
     fn fmt<W: fmt::Write>(&self, f: &mut fmt::Formatter<W>) -> fmt::Result {
         let word = match self {
             LineFault::BothForms => "BothForms",
+            LineFault::JsonExplained => "JsonExplained",
             LineFault::JsonForm => "JsonForm",
             LineFault::ColorWord => "ColorWord",
             LineFault::BothInputs => "BothInputs",
@@ -84,10 +87,13 @@ impl From<WordFault> for LineFault {
 /// Why there is no request. Its `Display` is the text for the user, in full lines, of [`NoRequest::Help`] and
 /// [`NoRequest::Refused`].
 #[derive(Debug, Drop, Error)]
-pub enum NoRequest {
+pub enum NoRequest<'a> {
     /// Help or the version was requested. The text goes where results go, and the status is 0.
     #[error("{0}")]
     Help(Message),
+    /// Findings are to be explained, those with these words, or all if there are none. No file is read.
+    #[error("Explanation")]
+    Explanation(Vec<&'a str>),
     /// The words are no command line. The text goes where faults go, and the status is 2.
     #[error("{0}")]
     Refused(Message),

@@ -3,6 +3,7 @@
 use ti_escape::{Color, Form};
 use ti_lint::LintOptions;
 use ti_names::NameTable;
+use ti_trace::TraceOptions;
 
 /// How the names that an entry brings with it are written: its own, and those of its extended capabilities.
 #[derive(Clone, Copy, Debug, PartialEq, Eq)]
@@ -13,7 +14,7 @@ pub enum NameForm {
     Notation,
 }
 
-/// What an entry and its capabilities are called in a listing.
+/// The names of an entry and its capabilities in a listing.
 #[derive(Clone, Copy, Debug, PartialEq, Eq)]
 pub struct Naming {
     /// The table of names by which standard capabilities are called.
@@ -25,7 +26,7 @@ pub struct Naming {
 /// How a listing of an entry is written.
 #[derive(Clone, Copy, Debug, PartialEq, Eq)]
 pub struct ListOptions {
-    /// What the entry and its capabilities are called.
+    /// The names of the entry and its capabilities.
     pub naming: Naming,
     /// How the bytes of texts are shown.
     pub form: Form,
@@ -49,22 +50,22 @@ pub enum Verdicts {
     Faults,
 }
 
-/// What a document of JSON says of an entry.
+/// The contents of a document of JSON.
 #[derive(Clone, Copy, Debug, PartialEq, Eq)]
 pub enum Document {
-    /// What the entry has, as a listing says it.
+    /// The capabilities of the entry, as a listing has them.
     Listing,
     /// The verdicts on its texts, as `check` gives them.
     Verdicts(Verdicts),
-    /// What is wrong with it, as `lint` reports it.
+    /// Its findings, as `lint` reports them.
     Findings(LintOptions),
 }
 
 /// How a trace is written.
 #[derive(Clone, Copy, Debug, PartialEq, Eq)]
 pub enum TraceForm {
-    /// As lines, with texts in a form; those of tokens that are passed over may stand out.
-    Lines(Form, Color),
+    /// As lines.
+    Lines(TraceOptions),
     /// As a document of JSON.
     Json,
 }

@@ -35,7 +35,7 @@ fn printable_words(alloc: Global, words: &[&str]) -> Result<Vec<String>, AllocEr
     Ok(shown)
 }
 
-/// What `clap` says of words, nothing if they are a line.
+/// Returns the message of `clap` on words, nothing if they are a line.
 fn text_on(alloc: Global, words: &[String]) -> Result<String, AllocError> {
     match program(alloc)?.try_get_matches_from(words).err() {
         Some(error) if error.kind() == ErrorKind::OutOfMemory => Err(AllocError),
@@ -44,7 +44,7 @@ fn text_on(alloc: Global, words: &[String]) -> Result<String, AllocError> {
     }
 }
 
-/// What `clap` says of words that are no line, of which it says `error`. No byte of a word is in it but printable ones.
+/// Returns the message of `clap` on words that are no line, for which it gives `error`. No byte of a word is in it but printable ones.
 pub(crate) fn printable_text<'a>(
     alloc: Global,
     words: &'a [&'a str],

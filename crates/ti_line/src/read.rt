@@ -11,21 +11,22 @@ ghost use Rattle.ti_line.specs.inner.Errors.{TellsOf};
 use crate::actions::action_of;
 use crate::command::program;
 use crate::destination::Destination;
-use crate::matches::{files, has_summary};
+use crate::matches::{explained, files, flag, has_summary};
 use crate::message::Message;
-use crate::no_request::{LineFault, NoRequest};
+use crate::no_request::NoRequest;
 use crate::printable::printable_text;
 use crate::request::Request;
+use crate::tip::tipped_text;
 use clap::Error;
 use clap::error::ErrorKind;
 use std::alloc::{AllocError, Global};
 
-/// Reads the words by `clap`. Words in which it finds no fault make a line, which requests something or has a fault.
+/// Reads the words by `clap`. Words in which it finds no fault make a line, which requests something, or explanations, or has a fault.
 fn read_words<'a>(
     alloc: Global,
     to: Destination,
     words: &'a [&'a str],
-) -> Result<Result<Request<'a>, LineFault>, Error>
+) -> Result<Result<Request<'a>, NoRequest<'a>>, Error>
     ensures read { IfOk result (λ answer. IsSaidOf to (texts_of words.entry.now)
         (command_in (subcommand_of ti_app (texts_of words.entry.now))) answer) }
     ensures kinds { FailsBy (faults (texts_of words.entry.now)) result }
@@ -36,28 +37,31 @@ fn read_words<'a>(
             let files = files(alloc, given)?;
             let has_summary = has_summary(given);
             match action_of(to, command, given) {
+                Ok(_) if flag(given, "explain") => {
+                    Ok(Err(NoRequest::Explanation(explained(alloc, given)?)))
+                }
                 Ok(action) => Ok(Ok(Request {
                     action,
                     files,
                     has_summary,
                 })),
-                Err(fault) => Ok(Err(fault)),
+                Err(fault) => Ok(Err(NoRequest::Fault(fault))),
             }
         }
         None => unreachable!(),
     }
 }
 
-/// What is said of words that are no line.
+/// Returns the message on words that are no line.
 fn message_on<'a>(alloc: Global, words: &'a [&'a str], error: &Error) -> Result<Message, AllocError>
     ensures { IfOk result (λ message. 0 < length (message_text message)) }
 {
     let text = printable_text(alloc, words, error)?;
-    Message::new(alloc, text)
+    Message::new(alloc, tipped_text(alloc, words, error, text)?)
 }
 
-/// What an error of `clap` says of the words.
-fn no_request<'a>(alloc: Global, words: &'a [&'a str], error: &Error) -> NoRequest
+/// Returns why an error of `clap` leaves no request.
+fn no_request<'a>(alloc: Global, words: &'a [&'a str], error: &Error) -> NoRequest<'a>
     ensures tells { TellsOf (kind_of error.now) result }
     ensures says { HasText result }
 {
@@ -79,8 +83,8 @@ fn no_request<'a>(alloc: Global, words: &'a [&'a str], error: &Error) -> NoReque
 ///
 /// # Errors
 ///
-/// [`NoRequest::Help`] if help or the version is requested, [`NoRequest::Refused`] if the words are no command line,
-/// [`NoRequest::Fault`] if the line requests both forms or both widths, or JSON in a form, or a trace of a notation and of a
+/// [`NoRequest::Help`] if help or the version is requested, [`NoRequest::Explanation`] if `lint` has `--explain`, [`NoRequest::Refused`] if the words are no command line,
+/// [`NoRequest::Fault`] if the line requests both forms or both widths, or JSON in a form or as an explanation, or a trace of a notation and of a
 /// name, or of an entry and no name, its parameters are none or do not fit the capability with the name, or an entry would go
 /// to a terminal, and [`NoRequest::Memory`] if a growth was refused. A message shows no byte of a word but printable ASCII
 /// characters: the others are in the notation of terminfo(5).
@@ -95,7 +99,7 @@ pub fn read_line<'a>(
     alloc: Global,
     to: Destination,
     words: &'a [&'a str],
-) -> Result<Request<'a>, NoRequest>
+) -> Result<Request<'a>, NoRequest<'a>>
     ensures read { IfOk result (λ request. (command : Command) × (rows : List Row)
         × Reads (texts_of words.entry.now) command rows
         × IsRequest to (texts_of words.entry.now) command rows request) }
@@ -108,7 +112,7 @@ pub fn read_line<'a>(
 {
     match read_words(alloc, to, words) {
         Ok(Ok(request)) => Ok(request),
-        Ok(Err(fault)) => Err(NoRequest::Fault(fault)),
+        Ok(Err(why)) => Err(why),
         Err(error) => Err(no_request(alloc, words, &error)),
     }
 }

@@ -1,4 +1,4 @@
-//! What a command line requests, all of it valid.
+//! The requests of a command line, all of them valid.
 
 use crate::given::Given;
 use crate::options::{
@@ -11,10 +11,10 @@ use ti_names::NameTable;
 use ti_pad::Padding;
 use ti_words::Width;
 
-/// What a command line requests, and of which files.
+/// The request of a command line, and its files.
 #[derive(Debug, Drop)]
 pub struct Request<'a> {
-    /// What is done with each.
+    /// The work on each file.
     pub action: Action<'a>,
     /// The names of the files, in their order. None is standard input.
     pub files: Vec<&'a str>,
@@ -22,7 +22,7 @@ pub struct Request<'a> {
     pub has_summary: bool,
 }
 
-/// What is done with an input.
+/// The work on an input.
 #[derive(Debug, Drop)]
 pub enum Action<'a> {
     /// Something with an input as one capability.
@@ -55,25 +55,25 @@ pub struct ParameterValues<'a> {
     pub values: [Value<'a>; 9],
 }
 
-/// What is done with a capability.
+/// The work on a capability.
 #[derive(Debug, Drop)]
 pub struct CapabilityAction<'a> {
     /// Its parameters.
     pub parameters: ParameterValues<'a>,
-    /// What is written of it.
+    /// The result to write.
     pub result: CapabilityResult,
 }
 
-/// What is written of a capability.
+/// The result of a capability.
 #[derive(Clone, Copy, Debug, PartialEq, Eq)]
 pub enum CapabilityResult {
-    /// What it expands to.
+    /// Its expansion.
     Cap(Output),
-    /// What each of its tokens does.
+    /// A row for each of its tokens.
     Trace(TraceForm),
 }
 
-/// What is done with an entry.
+/// The work on an entry.
 #[derive(Debug, Drop)]
 pub enum EntryAction<'a> {
     /// To list it.

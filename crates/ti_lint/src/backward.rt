@@ -14,7 +14,7 @@ use std::alloc::{AllocError, Allocator};
 use std::marker::Model;
 use ti_cap::Token;
 
-/// What the paths go on to that wait in an open conditional.
+/// The outlooks that an open conditional saves.
 #[derive(Clone, Copy)]
 pub struct OpenOutlooks {
     /// Those whose test fails, up to the next `%e` or `%;`.
@@ -31,10 +31,10 @@ impl OpenOutlooks {
     };
 }
 
-/// What holds where a pass stands.
+/// The state of the pass.
 #[derive(Drop)]
 pub struct Backward<A: Allocator> {
-    /// What is true on some path from here.
+    /// The outlook from here.
     here: Outlook,
     /// The open conditionals, the innermost last. Those that the end closes may be missing.
     opens: Vec<OpenOutlooks, A>,
@@ -66,7 +66,7 @@ impl<A: Allocator> Backward<A> {
         }
     }
 
-    /// What is true on some path from here.
+    /// Returns the outlook from here.
     pub fn here(&self) -> &Outlook
         ensures { result.now ≡ self.now.here }
     {
@@ -131,7 +131,7 @@ impl<A: Allocator> Backward<A> {
     }
 }
 
-/// What is true on some path after each token, that of the first token last.
+/// Returns the outlook after each token, that of the first token last.
 pub fn outlooks<A: Allocator + Copy>(
     alloc: A,
     tokens: &[Token],

@@ -1,4 +1,4 @@
-//! What is wrong with a conditional, by the tokens of its parts.
+//! Findings on a conditional, by the tokens of its parts.
 //!
 //! A test is looked at alone, so that the cost is linear, but for tests that are repeated: the test of an arm is compared with
 //! those of all arms before it. So the cost grows with the arms of a conditional times the tokens of it, which is at most
@@ -254,7 +254,7 @@ fn has_no_effect(after: &[Token]) -> bool
     part.may_end()
 }
 
-/// What is wrong with the token at a place by the conditional that it is a part of.
+/// Returns the finding on the token at a place by the conditional that it is a part of.
 pub fn judge_conditional(tokens: &[Token], place: usize) -> Option<TokenFinding>
     requires within { place < length tokens.now }
     requires few { length tokens.now ≤ most_capability_bytes }

@@ -1,8 +1,8 @@
-//! What the findings of a capability go by.
+//! The rules for the findings of a capability.
 
 use crate::variables::Variables;
 
-/// What terminfo(5) and the other texts of an entry say of a capability.
+/// The rules that terminfo(5) and the other texts of an entry give for a capability.
 #[derive(Clone, Copy, Debug, PartialEq, Eq)]
 pub struct Expected {
     /// How many parameters it has.

@@ -1,4 +1,4 @@
-//! What extended texts are, by their names (user_caps(5)).
+//! The classes of extended texts, by their names (user_caps(5)).
 
 ghost use Rattle.std.specs.Prelude.{◌≡◌, map};
 ghost use Rattle.ti_lint.specs.ExtendedClasses.{is_key, extended_class, extended_classes};
@@ -37,7 +37,7 @@ static EXTENDED_CLASSES: [(&str, Class); 25] = [
     ("xm", Input),
 ];
 
-/// What the extended text with a name is, such as `XM`, which has one parameter. The names of keys start with `k`; of
+/// Returns the class of the extended text with a name, such as `XM`, which has one parameter. The names of keys start with `k`; of
 /// other names than those of [`user_caps(5)`](https://invisible-island.net/ncurses/man/user_caps.5.html), tmux(1) and screen(1)
 /// nothing is known.
 pub fn extended_class_of(name: &[u8]) -> Option<Class>

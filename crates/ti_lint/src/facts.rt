@@ -1,4 +1,4 @@
-//! What is true on some path that comes to a place. No fact depends on which way a test went, so what is found is exact.
+//! Facts that hold on some path that comes to a place. No fact depends on which way a test went, so what is found is exact.
 
 ghost use Rattle.std.specs.Prelude.{◌≡◌, ◌≤◌};
 ghost use Rattle.ti_lint.specs.inner.Facts.{after_token, is_first_two, joined, IsLettered, judgement, is_unset, found_if, of_pops, underflow};
@@ -10,7 +10,7 @@ use crate::values::Values;
 use crate::variables::Variables;
 use ti_cap::Token;
 
-/// What is true on some path here.
+/// The facts that hold on some path here.
 #[derive(Clone, Copy)]
 pub struct Facts {
     /// The heights of the stack, each on some path.
@@ -77,7 +77,7 @@ impl Facts {
         self.named_first_two
     }
 
-    /// What is wrong with a token on some path here. `termcap` says that the capability names no parameter.
+    /// Returns the finding on a token on some path here, if there is one. `termcap` says that the capability names no parameter.
     pub fn judge(&self, token: Token, expected: &Expected, termcap: bool) -> Option<TokenFinding>
         requires { IsLettered token }
         ensures { result ≡ judgement expected.now termcap token self.now }

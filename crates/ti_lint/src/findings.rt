@@ -20,11 +20,11 @@ use ti_cap::{Capability, ParameterSet, Tape, Token};
 pub struct Judged {
     /// The token.
     pub token: Token,
-    /// What is wrong with it by what comes before it. No token has two such findings.
+    /// The finding by what comes before it. No token has two such findings.
     pub before: Option<TokenFinding>,
-    /// What is wrong with it by what comes after it. No token has two such findings.
+    /// The finding by what comes after it. No token has two such findings.
     pub after: Option<TokenFinding>,
-    /// What is wrong with it by the conditional that it is a part of. No token has two such findings.
+    /// The finding by the conditional that it is a part of. No token has two such findings.
     pub within: Option<TokenFinding>,
 }
 
@@ -33,7 +33,7 @@ pub struct Judged {
 pub struct Findings<'a, A: Allocator = Global> {
     tape: Tape<'a>,
     pass: Pass,
-    /// What comes after each token that is left, that of the first one last.
+    /// The outlook after each token that is left, that of the first one last.
     outlooks: Vec<Outlook, A>,
     /// All tokens.
     tokens: Vec<Token, A>,

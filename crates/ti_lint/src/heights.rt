@@ -44,7 +44,7 @@ impl Heights {
         }
     }
 
-    /// What is in either of two sets.
+    /// Returns the union of two sets.
     pub fn union(self, other: Heights) -> Heights
         ensures { result ≡ either_height self other }
     {

@@ -1,4 +1,4 @@
-//! What is wrong with a capability on some of its paths, found exactly over all of them.
+//! Findings on a capability on some of its paths, exact over all of them.
 //!
 //! [`findings_of`] returns the findings of a capability with their places, and [`Findings`] reports them token by token: a pop
 //! of the empty stack, a value that is never popped, a parameter that the capability does not have, a `%i` that is repeated,

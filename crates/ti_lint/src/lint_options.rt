@@ -1,4 +1,4 @@
-//! What a report on an entry looks for.
+//! The options of a report on an entry.
 
 use crate::level::Level;
 

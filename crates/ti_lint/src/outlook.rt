@@ -1,4 +1,4 @@
-//! What is true on some path that goes on from a place to the end. No fact depends on which way a test went, so what is found
+//! Facts that hold on some path from a place to the end. No fact depends on which way a test went, so what is found
 //! is exact.
 
 ghost use Rattle.std.specs.Prelude.{◌≡◌, ◌<◌, ◌^◌, IsTrue};
@@ -11,7 +11,7 @@ use crate::token_finding::TokenFinding;
 use crate::variables::Variables;
 use ti_cap::{Op, Token};
 
-/// What is true on some path from here to the end.
+/// The facts that hold on some path from here to the end.
 #[derive(Clone, Copy)]
 pub struct Outlook {
     /// The fewest values that a path takes off the stack that it finds here.
@@ -54,7 +54,7 @@ impl Outlook {
         }
     }
 
-    /// What is wrong with a token after which the paths go on from here.
+    /// Returns the finding on a token after which the paths go on from here.
     pub fn judge(&self, token: Token, before: &Facts) -> Option<TokenFinding>
         requires { IsLettered token }
         ensures { result ≡ prospect token before.now self.now }

@@ -8,12 +8,12 @@ use crate::facts::Facts;
 use ti_base::MOST_OPEN;
 use ti_cap::Token;
 
-/// What waits in an open conditional.
+/// The state of an open conditional.
 #[derive(Clone, Copy)]
 pub struct OpenFacts {
-    /// What its tests failed with, since its last `%e`.
+    /// The facts after its failed tests, since its last `%e`.
     failed: Facts,
-    /// What its bodies ended with.
+    /// The facts after its bodies.
     done: Facts,
 }
 
@@ -25,10 +25,10 @@ impl OpenFacts {
     };
 }
 
-/// What holds where a pass stands.
+/// The state of the pass.
 #[derive(Drop)]
 pub struct Pass {
-    /// What is true on some path here.
+    /// The facts that hold on some path here.
     here: Facts,
     opens: [OpenFacts; MOST_OPEN],
     /// How many conditionals are open.
@@ -52,7 +52,7 @@ impl Pass {
         }
     }
 
-    /// What is true on some path here.
+    /// Returns the facts that hold on some path here.
     pub fn here(&self) -> &Facts
         ensures { result.now ≡ self.now.here }
     {

@@ -11,12 +11,12 @@ use crate::token_finding::TokenFinding;
 use std::alloc::{AllocError, Allocator};
 use ti_cap::Capability;
 
-/// What is wrong with a capability, and where.
+/// A finding on a capability, and its place.
 #[derive(Clone, Copy, Debug, PartialEq, Eq)]
 pub struct PlacedFinding {
     /// The number of bytes before the token.
     pub place: usize,
-    /// What is wrong with it.
+    /// The finding.
     pub finding: TokenFinding,
 }
 

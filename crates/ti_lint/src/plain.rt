@@ -1,4 +1,4 @@
-//! What a text that is sent as it stands has of the capability language. There `%` is a byte like others.
+//! The capability language in a text that is sent as it stands. There `%` is a byte like others.
 
 ghost use Rattle.std.specs.Prelude.{◌≤◌, ◌↔◌, IsTrue, length};
 ghost use Rattle.ti_lint.specs.Plain.{IsDoublePercent, IsMeantToExpand};

@@ -3,7 +3,7 @@
 ghost use Rattle.std.specs.Prelude.{◌≡◌};
 ghost use Rattle.ti_lint.specs.FindingWords.{token_word};
 
-/// What is wrong with a token of a capability, by the paths that meet it or by the conditional that it is a part of.
+/// A finding on a token of a capability, by the paths that meet it or by the conditional that it is a part of.
 #[derive(Clone, Copy, Debug, PartialEq, Eq)]
 pub enum TokenFinding {
     /// It pops more values than there are.

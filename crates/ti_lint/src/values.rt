@@ -40,7 +40,7 @@ impl Values {
         other: 0,
     };
 
-    /// What is in either of two.
+    /// Returns the union of two.
     pub fn union(self, other: Values) -> Values
         ensures { result ≡ either_values self other }
     {

@@ -34,7 +34,7 @@ impl Variables {
         self.mask >> (letter - b'A') & 1 == 1
     }
 
-    /// What is in either of two sets.
+    /// Returns the union of two sets.
     pub fn union(self, other: Variables) -> Variables
         ensures exact { (which : ℕ) → HasVariable result which
             ↔ (HasVariable self which ⊎ HasVariable other which) }
@@ -63,7 +63,7 @@ impl Variables {
         }
     }
 
-    /// What is in both of two sets.
+    /// Returns the intersection of two sets.
     pub(crate) fn intersection(self, other: Variables) -> Variables
         ensures { result ≡ both_sets self other }
     {

@@ -1,4 +1,4 @@
-//! What two entries do not have alike, one item after another.
+//! The differences of two entries, one item after another.
 
 ghost use Rattle.std.specs.Prelude.{◌≡◌, IfOk, OnOk, map};
 ghost use Rattle.ti_words.specs.Items.{subject_value};
@@ -117,7 +117,7 @@ fn push_names<'a, A: Allocator>(
     Ok(())
 }
 
-/// What two entries do not have alike: the format, the names, then the capabilities of terminfo(5) by their indices, and the
+/// Returns the differences of two entries: the format, the names, then the capabilities of terminfo(5) by their indices, and the
 /// extended ones by their names. If a name stands twice in an entry, the first counts. There is nothing exactly if both say the
 /// same, with texts that are alike counted as the same.
 ///

@@ -1,4 +1,4 @@
-//! What two entries do not have alike, one item after another.
+//! The differences of two entries, one item after another.
 
 ghost use Rattle.std.specs.Prelude.{◌≡◌};
 ghost use Rattle.ti_listing.specs.DifferingLines.{is_in_one as the_is_in_one};
@@ -11,9 +11,9 @@ use ti_json::{Content, Topic};
 pub struct Difference<'a> {
     /// Which of these it is.
     pub topic: Topic<'a>,
-    /// What the first entry has: of a capability that it lacks, the state `Absent`.
+    /// The content of the first entry: of a capability that it lacks, the state `Absent`.
     pub first: Content<'a>,
-    /// What the other entry has.
+    /// The content of the other entry.
     pub other: Content<'a>,
 }
 

@@ -1,4 +1,4 @@
-//! What a capability is called in the lines on an entry.
+//! The names of capabilities in the lines on an entry.
 
 ghost use Rattle.std.specs.Prelude.{◌≡◌, ◌++◌, OnOk};
 ghost use Rattle.ti_words.specs.Items.{subject_value};
@@ -11,7 +11,7 @@ use ti_line::{NameForm, Naming};
 use ti_names::NameTable;
 use ti_words::{Kind, Subject};
 
-/// What stands before the label: the word for the kind, with a `+` if the entry names the capability itself.
+/// Returns the word before the label: the kind, with a `+` if the entry names the capability itself.
 pub fn subject_word(subject: Subject<'_>) -> &'static [u8]
     ensures { result.now ≡ the_subject_word (subject_value subject.entry) }
 {

@@ -1,4 +1,4 @@
-//! What an entry has, and what two do not have alike, as lines and as JSON.
+//! The capabilities of an entry, and the differences of two, as lines and as JSON.
 //!
 //! [`lines_of`] lists an entry, and [`push_row`] writes any row as a line. [`difference_of`] compares two: its list says of each item that they do not have alike what each of
 //! them has, and [`differing_lines`], [`grouped_lines`] and [`differing_json`] show it.

@@ -1,4 +1,4 @@
-//! What the standard texts of an entry are: which have parameters and how many, which are sent as they stand, and which are
+//! The classes of the standard texts: which have parameters and how many, which are sent as they stand, and which are
 //! never sent.
 
 ghost use Rattle.std.specs.Prelude.{◌≡◌, map};
@@ -6,14 +6,14 @@ ghost use Rattle.ti_names.specs.NameLists.{all_texts, class_at};
 
 use crate::table::CLASSES;
 
-/// What a text is.
+/// The class of a text.
 #[derive(Clone, Copy, Debug, PartialEq, Eq)]
 pub enum Class {
     /// A capability with so many parameters, which is expanded before it is sent.
     Parameterized(u8),
     /// Sent as it stands, so that `%` is a byte like others.
     Plain,
-    /// What a key sends.
+    /// The bytes that a key sends.
     Key,
     /// The label of a function key.
     Label,
@@ -27,7 +27,7 @@ pub enum Class {
     Input,
 }
 
-/// What the standard text at an index of an entry is, such as `cup` at 10, which has two parameters.
+/// Returns the class of the standard text at an index of an entry, such as `cup` at 10, which has two parameters.
 pub fn class_of(index: usize) -> Option<Class>
     ensures value { result ≡ class_at index }
 {

@@ -24,7 +24,7 @@ macro_rules! common {
     ($(($short:literal, $long:literal, $common:literal $(, $class:expr)?),)*) => { [$($common),*] };
 }
 
-/// What the texts of rows are.
+/// The classes of the texts of rows.
 macro_rules! class {
     ($(($short:literal, $long:literal, $common:literal, $class:expr),)*) => { [$($class),*] };
 }

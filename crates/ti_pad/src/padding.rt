@@ -1,4 +1,4 @@
-//! What padding depends on, and how many pad bytes a mark becomes.
+//! The settings that padding depends on, and how many pad bytes a mark becomes.
 
 ghost use Rattle.std.specs.Prelude.{◌≡◌, ◌≤◌, ◌↔◌, ◌+◌, ◌*◌, ◌/◌, IsSome, IfSome};
 ghost use Rattle.ti_base.specs.Limits.{greatest_rate, most_lines};

@@ -5,7 +5,7 @@ use Rattle.std.specs.Fmt.{digits}
 use Rattle.serde_json.specs.Data.{number, unsigned}
 use Rattle.ti_control.specs.Effects.{effects}
 use Rattle.ti_control.specs.Entries.{starts_introducer}
-use Rattle.ti_control.specs.declared.effect.Effect.TheVariants.{Answer}
+use Rattle.ti_control.specs.declared.effect.Effect.TheVariants.{Answer, Title}
 use Rattle.ti_escape.specs.declared.color.Color.TheVariants.{Never}
 use Rattle.ti_lint.specs.declared.level.Level.TheVariants.{Errors, All}
 use Rattle.ti_lint.specs.declared.token_finding.TokenFinding.TheVariants.{ParameterRange, RepeatedIncrement}
@@ -19,6 +19,7 @@ use Rattle.ti_report.specs.Blocks.{caret_line, carets, remedy}
 use Rattle.ti_report.specs.Constants.{IsTestsReport}
 use Rattle.ti_report.specs.Controls.{control_remarks, has_introducer, on_counted, range_in}
 use Rattle.ti_report.specs.Coverages.{AreCounts, IsCount}
+use Rattle.ti_report.specs.Explanations.{IsExplanation, IsSummary, explained, finding_called}
 use Rattle.ti_report.specs.Findings.{finding_row, finding_word}
 use Rattle.ti_report.specs.Keys.{Key, is_first_part, on_keys, on_two}
 use Rattle.ti_report.specs.Lines.{AreAll, InTurn}
@@ -37,7 +38,7 @@ use Rattle.ti_report.specs.Subjects.{known_as}
 use Rattle.ti_report.specs.Texts.{delay_remarks, empty_key, half_paired, may_leave_out, usage_of}
 use Rattle.ti_report.specs.Values.{Trial, ignored_if, remark_of, text_named, tried_at}
 use Rattle.ti_report.specs.Whole.{has}
-use Rattle.ti_report.specs.declared.finding.Finding.TheVariants.{AlikeKeys, EmptyKey, EmptyOutput, EqualPair, HalfPaired, IgnoredAttribute, KeyPrefix, LongDelay, OriginDiffers, Reads, RepeatedAlias, RepeatedName, Runs, SameOutput, Token}
+use Rattle.ti_report.specs.declared.finding.Finding.TheVariants.{AlikeKeys, Control, EmptyKey, EmptyOutput, EqualPair, HalfPaired, IgnoredAttribute, KeyPrefix, LongDelay, OriginDiffers, Reads, RepeatedAlias, RepeatedName, Runs, SameOutput, Token}
 use Rattle.ti_report.specs.declared.finding.Finding.{Finding}
 use Rattle.ti_report.specs.declared.names.NameKind.TheVariants.{Alias, Own}
 use Rattle.ti_values.specs.Controls.{Found}
@@ -144,6 +145,12 @@ uses = (refl, refl, refl, refl, refl)
 pub delays : (delay_remarks (codes "a$<5000/>") ≡ placed (1 ∷ []) LongDelay NoEvidence) × (delay_remarks (codes "a$<5>") ≡ [])
 unfolding total_delay
 delays = (refl, refl)
+
+-- the first finding of a word, a word that none has, and texts that start with their word
+pub explanations : (finding_called (codes "title") ≡ Some (Control Title)) × (finding_called (codes "titel") ≡ None)
+    × IsSummary (codes "size") (codes "size: too large") × IsExplanation (codes "size") (codes "size\n  It is too large.\n")
+unfolding explained
+explanations = (refl, refl, (refl, refl), (refl, refl))
 
 -- a text that is known and there
 pub subjects : (known_as (ExtendedSubject kinds.Text (codes "XM")) None (Some (codes "x")) ≡ [])

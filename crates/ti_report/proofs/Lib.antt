@@ -19,6 +19,7 @@ pub mod LayoutLemmas
 pub mod BaseLemmas
 pub mod NeighboursLemmas
 pub mod PlainLemmas
+pub mod CalledLemmas
 pub mod TrialsLemmas
 pub mod UsageLemmas
 pub mod OneKeysLemmas

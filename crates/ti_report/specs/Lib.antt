@@ -1,6 +1,7 @@
 pub mod Remarks
 pub mod Sentences
 pub mod Findings
+pub mod Explanations
 pub mod Blocks
 pub mod Objects
 pub mod Origins

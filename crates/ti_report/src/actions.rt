@@ -1,4 +1,4 @@
-//! What programs do with an entry beside sending its texts: they run a command, send files, and keep a screen of its size.
+//! Uses of an entry by programs beside sending its texts: they run a command, send files, and keep a screen of its size.
 
 ghost use Rattle.std.specs.Prelude.{◌≡◌, OnOk};
 ghost use Rattle.ti_report.specs.Actions.{action_remarks, has_vast_screen, is_mir_alone, is_tabset, natural, on_command, on_file};

@@ -1,4 +1,4 @@
-//! What is wrong with what `sgr` sends for sets of attributes, by itself and beside the texts that start them.
+//! Findings on the bytes that `sgr` sends for sets of attributes, by themselves and beside the texts that start them.
 
 ghost use Rattle.std.specs.Prelude.{◌≡◌, ◌&&◌, IfOk, OnOk, option_map};
 ghost use Rattle.std.specs.List.{flat_map};

@@ -28,14 +28,14 @@ use ti_values::{
 };
 use ti_words::Text;
 
-/// What the texts of an entry are looked at by.
+/// The terminal as the rules on control functions need it.
 #[derive(Drop)]
 pub struct Terminal<A: Allocator> {
     /// The entry comes from a stranger.
     pub untrusted: bool,
     /// The terminal is taken for one of ECMA-48.
     pub is_ecma: bool,
-    /// What `fsl` sends, which ends a string that is left open.
+    /// The bytes of `fsl`, which end a string that is left open.
     pub after: Vec<SentByte, A>,
     /// The size of the screen, and the colors, by which texts are tried over values.
     pub lines: i32,
@@ -100,7 +100,7 @@ fn sent_text<A: Allocator>(alloc: A, text: Text<'_>) -> Result<Vec<SentByte, A>,
     }
 }
 
-/// What the texts of an entry are looked at by.
+/// Returns the terminal of an entry.
 fn terminal_of<A: Allocator>(
     alloc: A,
     untrusted: bool,
@@ -131,7 +131,7 @@ fn range_in(rows: &[(&'static str, Range)], name: &[u8]) -> Option<Range>
     None
 }
 
-/// What the text with a name is tried over, if it is.
+/// Returns the values over which the text with a name is tried, if it is.
 fn range_of<A: Allocator>(terminal: &Terminal<A>, name: &[u8]) -> Option<Range>
     ensures { result ≡ range_in (terminal_held terminal.now).rows name.now }
 {
@@ -150,7 +150,7 @@ fn place_in<'t, A: Allocator>(terminal: &'t Terminal<A>, name: &'t [u8]) -> Plac
     }
 }
 
-/// What is found among the plain bytes of all arms, if the entry comes from a stranger.
+/// Returns the function found among the plain bytes of all arms, if the entry comes from a stranger.
 fn plain_found_if<A: Allocator + Copy>(
     alloc: A,
     untrusted: bool,

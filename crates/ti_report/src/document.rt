@@ -21,7 +21,7 @@ use ti_entry::Entry;
 use ti_json::Printer;
 use ti_lint::LintOptions;
 
-/// What it means.
+/// Returns its meaning.
 fn meaning_of<A: Allocator>(
     alloc: A,
     finding: Finding,
@@ -151,7 +151,7 @@ pub struct ReportJson<A: Allocator = Global> {
     pub sound: bool,
 }
 
-/// What is wrong with an entry that was read from the bytes, as JSON: an array of objects, without a space between tokens, in the
+/// Returns the findings on an entry that was read from the bytes, as JSON: an array of objects, without a space between tokens, in the
 /// order of the lines.
 ///
 /// Each has `finding` (its word), `fix` (what to do), `meaning`, `places` (in the text, of those that have a caret below) and

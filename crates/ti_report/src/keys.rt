@@ -1,4 +1,4 @@
-//! What keys send. After what is the first part of another key's text a program has to wait for what may follow.
+//! The bytes that keys send. After what is the first part of another key's text a program has to wait for what may follow.
 
 ghost use Rattle.std.specs.List.{flat_map};
 ghost use Rattle.std.specs.Prelude.{◌≡◌, ◌++◌, OnOk, IfOk};

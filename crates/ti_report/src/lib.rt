@@ -1,4 +1,4 @@
-//! What is wrong with a compiled terminfo entry: remarks, as lines for a person or as JSON.
+//! Findings on a compiled terminfo entry: remarks, as lines for a person or as JSON.
 //!
 //! [`push_report`] and [`report_json`] go over the texts of an entry, each by what it is: a text with parameters is analysed over
 //! all its paths, and one that is sent as it stands, or that a key sends, may not have what only an expansion takes away. A sound
@@ -9,11 +9,13 @@
 mod actions;
 mod attributes;
 mod base;
+mod called;
 mod colors;
 mod constants;
 mod controls;
 mod coverage;
 mod document;
+mod explanation;
 mod finding;
 mod judgements;
 mod keys;
@@ -41,8 +43,10 @@ mod usage;
 mod values;
 mod whole;
 
+pub use called::{explained_findings, finding_called};
 pub use coverage::{Coverage, coverage_of};
 pub use document::{ReportJson, print_report, report_json};
+pub use explanation::{explanation_of, summary_of};
 pub use finding::Finding;
 pub use report::{count_findings, push_report};
 pub use ti_escape::Color;

@@ -58,14 +58,14 @@ pub fn escapes_of<A: Allocator>(alloc: A, text: &[u8]) -> Result<Vec<usize, A>, 
     }
 }
 
-/// What is looked for in a text.
+/// The bytes that a rule looks for in a text.
 #[derive(Clone, Copy)]
 pub enum Sought {
     /// Two percent signs.
     Percents,
     /// A padding mark.
     Mark,
-    /// What starts as a padding mark and is none.
+    /// A start of a padding mark that is none.
     FalseMark,
 }
 

@@ -72,7 +72,7 @@ fn part_of(bytes: &[u8], start: usize, end: usize) -> &[u8]
     &bytes[start..end]
 }
 
-/// What stands between `|`.
+/// Returns the parts between `|`.
 fn parts_of<'a, A: Allocator>(alloc: A, bytes: &'a [u8]) -> Result<Vec<&'a [u8], A>, AllocError>
     ensures { IfOk result (λ parts. texts_lent parts.items ≡ parted [] bytes.now) }
 {

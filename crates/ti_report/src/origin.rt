@@ -21,7 +21,7 @@ pub struct Motion<'t, 'a> {
     sent: &'t [u8],
 }
 
-/// What a text sends if each parameter is 0; none if it is no capability, or is not tried.
+/// Returns the bytes that a text sends if each parameter is 0; none if it is no capability, or is not tried.
 fn sent_at_origin<A: Allocator + Copy>(
     alloc: A,
     text: &[u8],

@@ -16,7 +16,7 @@ use ti_lint::{toggling_pairs, undoing_pairs};
 use ti_names::NameTable;
 use ti_words::Text;
 
-/// What the standard text at an index is called.
+/// Returns the name of the standard text at an index.
 pub fn standard_label(index: usize) -> &'static str
     ensures { result.now ≡ standard_label index }
 {

@@ -1,4 +1,4 @@
-//! What is found in an entry: remarks, of which lines and JSON are two forms.
+//! The findings on an entry: remarks, of which lines and JSON are two forms.
 
 use crate::finding::Finding;
 use std::alloc::{AllocError, Allocator};
@@ -13,7 +13,7 @@ pub struct NamedText<'a> {
     pub text: &'a [u8],
 }
 
-/// What a remark is about.
+/// The subject of a remark.
 #[derive(Clone, Copy)]
 pub enum About<'a> {
     Entry,
@@ -22,7 +22,7 @@ pub enum About<'a> {
     Two(NamedText<'a>, NamedText<'a>),
 }
 
-/// What a sentence has beside the words of its finding.
+/// The evidence that a sentence has beside the words of its finding.
 #[derive(Drop)]
 pub enum Evidence<A: Allocator> {
     None,
@@ -83,7 +83,7 @@ impl<A: Allocator + Copy> Evidence<A> {
     }
 }
 
-/// What was found: what it is about, the places of the text at which it is so, the finding, and the evidence.
+/// A remark: its subject, the places in its text, the finding, and the evidence.
 #[derive(Drop)]
 pub struct Remark<'a, A: Allocator> {
     about: About<'a>,
@@ -132,7 +132,7 @@ impl<'a, A: Allocator> Remark<'a, A> {
         }
     }
 
-    /// What it is about.
+    /// Returns its subject.
     pub fn about(&self) -> About<'a>
         ensures { about_held result ≡ self.now.about }
     {
@@ -146,7 +146,7 @@ impl<'a, A: Allocator> Remark<'a, A> {
         self.places.as_slice()
     }
 
-    /// What was found.
+    /// Returns its finding.
     pub fn finding(&self) -> Finding
         ensures { result ≡ self.now.finding }
     {

@@ -29,7 +29,7 @@ use ti_entry::Entry;
 use ti_escape::Color;
 use ti_lint::LintOptions;
 
-/// What is wrong with an entry: remarks, in order. Each rule adds its own.
+/// The findings on an entry: remarks, in order. Each rule adds its own.
 #[derive(Drop)]
 pub struct Report<'r, 'a, A: Allocator> {
     alloc: A,
@@ -82,7 +82,7 @@ impl<'r, 'a, A: Allocator + Copy> Report<'r, 'a, A> {
         }
     }
 
-    /// What memory is taken from.
+    /// Returns the allocator.
     pub fn allocator(&self) -> A {
         self.alloc
     }

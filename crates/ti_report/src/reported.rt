@@ -8,7 +8,7 @@ use crate::remark::{About, Remark};
 use std::alloc::{AllocError, Allocator};
 use ti_lint::Level;
 
-/// What a remark is about, and its word.
+/// The subject of a remark, and its word.
 #[derive(Clone, Copy)]
 struct Head<'a> {
     about: About<'a>,

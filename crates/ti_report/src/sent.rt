@@ -1,4 +1,4 @@
-//! What is wrong with what a text sends for numbers, and the trial of a text that all such rules look at.
+//! Findings on the bytes that a text sends for numbers, and the trial of a text that all such rules look at.
 
 ghost use Rattle.std.specs.Prelude.{◌≡◌, IfOk, OnOk};
 ghost use Rattle.ti_values.specs.Findings.{sent_at as the_sent_at};

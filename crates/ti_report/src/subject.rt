@@ -22,7 +22,7 @@ pub struct KnownText<'a> {
     pub standard: bool,
 }
 
-/// What a text is, if it is known.
+/// Returns the class of a text, if it is known.
 fn subject_class(subject: Subject<'_>) -> Option<Class>
     ensures { result ≡ the_subject_class (subject_value subject.entry) }
 {
@@ -32,7 +32,7 @@ fn subject_class(subject: Subject<'_>) -> Option<Class>
     }
 }
 
-/// What a text is called.
+/// Returns the name of a text.
 fn subject_name(subject: Subject<'_>) -> &[u8]
     ensures { result.now ≡ the_subject_name (subject_value subject.entry) }
 {

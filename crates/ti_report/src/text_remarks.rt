@@ -11,7 +11,7 @@ use crate::report::Report;
 use std::alloc::{AllocError, Allocator};
 use std::marker::Model;
 
-/// What is wrong with a text: the places at which it is so, and what it is.
+/// A finding on a text: its places, and the finding.
 #[derive(Drop)]
 pub struct TextRemark<A: Allocator> {
     places: Vec<usize, A>,
@@ -76,7 +76,7 @@ impl<A: Allocator + Copy> TextRemarks<A> {
         }
     }
 
-    /// What memory is taken from.
+    /// Returns the allocator.
     pub fn allocator(&self) -> A {
         self.alloc
     }

@@ -55,7 +55,7 @@ fn evidence_of<A: Allocator>(finding: TokenFinding, parameters: u8) -> Evidence<
     }
 }
 
-/// What parameters are that nothing pushes.
+/// Returns the finding on parameters that nothing pushes.
 fn unused_finding(usage: Usage) -> Finding
     ensures { result ≡ unused_finding usage }
 {

@@ -1,6 +1,6 @@
 //! Texts that were tried over values, kept so that each is tried once for all entries that share it.
 //!
-//! What is kept saves time alone: a report is the same with it and without it. At most [`MOST_QUIET_TEXTS`],
+//! Results are kept to save time alone: a report is the same with them and without them. At most [`MOST_QUIET_TEXTS`],
 //! [`MOST_HARMLESS_TEXTS`] and [`MOST_SENT_TEXTS`] are kept, and those after them are tried each time.
 
 ghost use Rattle.std.specs.Prelude.{◌≡◌, ◌≤◌, IfSome, length, true};
@@ -235,7 +235,7 @@ impl<A: Allocator> Trials<A> {
         Ok(())
     }
 
-    /// What a text sends for all sets of attributes, if it is kept.
+    /// Returns the bytes that a text sends for all sets of attributes, if they are kept.
     pub(crate) fn sent_for(&self, text: &[u8]) -> Option<&[Vec<u8, A>]>
         ensures { IfSome result (λ sent. AreSentForSets text.now (texts_of sent.now)) }
     {

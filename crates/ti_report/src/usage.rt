@@ -9,7 +9,7 @@ use ti_names::Class;
 /// How a text is used.
 #[derive(Clone, Copy, PartialEq, Eq)]
 pub struct Usage {
-    /// What it is.
+    /// Its class.
     pub class: Class,
     /// Which of its parameters are texts.
     pub texts: TextParameters,

@@ -1,4 +1,4 @@
-//! What is wrong with a text for some of the values that it may be given: which texts are tried, and over which values.
+//! Findings on a text for some of the values that it may be given: which texts are tried, and over which values.
 
 ghost use Rattle.std.specs.Prelude.{◌≡◌, OnOk, map};
 ghost use Rattle.ti_values.specs.inner.Rows.{row_of};

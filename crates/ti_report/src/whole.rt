@@ -1,4 +1,4 @@
-//! What is wrong with an entry as a whole.
+//! Findings on an entry as a whole.
 
 ghost use Rattle.std.specs.Prelude.{OnOk};
 ghost use Rattle.ti_report.specs.Whole.{whole_remarks};

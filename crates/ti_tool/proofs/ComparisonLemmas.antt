@@ -67,7 +67,7 @@ module _ {F O : Type 0} (bytes line : O → List ℕ) (status : O → ℕ) (know
 -- what they led to is written
 pub ran_difference : {F O : Type 0} (bytes line : O → List ℕ) (code : O → ℕ) (known : KnownFiles) (has_advice : Bool) (d : Pair) (before after : Streams) (outcome : Result O F) (answer : Option ℕ) (status : ℕ) (V : Type 0)
     → IfOk outcome (λ o. (one : Supply) × (two : Supply) × AreSupplied known d before.left after.left one two × IsComparison has_advice d.likeness d.form d.file.now d.other.now one two (bytes o) (line o) (code o))
-    → MatchResult outcome (λ o. Delivered before.held after.held before.told after.told answer (bytes o) (line o) (code o)) (λ _. Delivered before.held after.held before.told after.told answer [] (fault_line fault.Memory) 6)
+    → MatchResult outcome (λ o. Delivered has_advice before.held after.held before.told after.told answer (bytes o) (line o) (code o)) (λ _. Delivered has_advice before.held after.held before.told after.told answer [] (fault_line fault.Memory) 6)
     → status ≡ unwrap_or answer 5 → IfSome answer (λ s. 1 < s → V) → RanDifference known has_advice d V before after status
 ran_difference bytes line code known has_advice d before after (Ok o) answer status V (one, two, supplied, led) delivered is kept = (one, two, supplied, (bytes o, line o, code o, led, (answer, delivered, is, kept)))
 ran_difference bytes line code known has_advice d before after (Err e) answer status V led delivered is kept =

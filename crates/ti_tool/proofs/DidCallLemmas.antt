@@ -23,7 +23,7 @@ use Rattle.ti_tool.specs.Advice.{IsAdvised, advice_if, hints, kept_of, most_kept
 use Rattle.ti_tool.specs.Sources.{notation_in, text_of}
 use Rattle.ti_tool.specs.declared.extras.Extras.{Extras}
 use Rattle.ti_tool.specs.FaultLines.{IsAnswerLine, action_line, fault_line}
-use Rattle.ti_tool.specs.FileRuns.{Contents, Delivered, IsInput, IsOutcomeOfInput, NoMemory, RanInput, Supply, Unread, looked}
+use Rattle.ti_tool.specs.FileRuns.{Contents, Delivered, IsInput, IsOutcomeOfInput, IsToldLast, NoMemory, RanInput, Supply, Unread, looked, pasted_of}
 use Rattle.ti_tool.specs.Results.{Finds, IsAnswer, IsDueIn}
 use Rattle.ti_tool.specs.Summaries.{IsSummarized}
 use Rattle.ti_tool.specs.Statuses.{status_for}
@@ -96,7 +96,7 @@ answer_never (Difference d) input = record { no_write = λ gone d. d; no_memory 
 -- a source that stopped gave no entry
 pub stopped : (e : EntryAction) (kept : List ℕ) (left0 left1 : Option (List ℕ)) (old new : Reading) (why : ReadStop) → old ≡ new_reading → FeedsFrom left0 left1 old new
     → new.refusal ≡ refusal_after why → (supply : Supply) × IsInput (Entry e) left0 left1 supply × HasFault (Entry e) kept supply (stop_fault why)
-stopped e kept left0 left1 old new stop.Io first (bytes, took, fed) none = (Unread, (bytes, took), refl)
+stopped e kept left0 left1 old new stop.Io first (bytes, took, fed) none = (Unread, (bytes, took), (refl, tt))
 stopped e kept left0 left1 old new (stop.Refused refused) first (bytes, took, fed) some =
     let failed = stopped_on bytes old new refused first fed some in
     (Contents bytes, (took, inl (refused, failed)), (inr (inl (refused, failure_refuses bytes refused failed, refl)), tt))
@@ -121,7 +121,7 @@ module _ (action : Action) (left0 left1 : Option (List ℕ)) where
   pub failed_call : (supply : Supply) (kept : List ℕ) (held : Option (List ℕ)) (e : ToolFault) → IsInput action left0 left1 supply → HasFault action kept supply e
       → DidCheck (IsAnswer action) (IsEnough action) left0 left1 held held (Err e)
   failed_call (Contents bytes) kept held e (read, at) (due, same) = (true, tt, did_fail (IsAnswer action true) (IsEnough action) left0 left1 held bytes e read at (answer_never action bytes) due)
-  failed_call Unread kept held e (bytes, read) is =
+  failed_call Unread kept held e (bytes, read) (is, none) =
       let Did : ToolFault → Type 0 = λ f. DidCall (IsAnswer action true) (IsEnough action) left0 left1 held held (Err f) in
       (true, tt, subst Did (sym is) (record { input = bytes; read = read; ended = tt; wrote = Keeps-refl held }))
   failed_call NoMemory kept held e none h = absurd none
@@ -188,15 +188,6 @@ told_of_kept None (Capability c) kept bytes why line same is = is
 told_of_kept None (Source c) kept bytes why line same is = is
 told_of_kept None (Difference d) kept bytes why line same is = is
 
--- what is held says no less of an output than what is kept of an entry
-pub held_output : (action : Action) (supply : Supply) (kept input : List ℕ) (passed : Bool) (out : List ℕ) → HasOutput action (held_of action kept input) supply passed out → HasOutput action kept supply passed out
-held_output (Entry e) supply kept input passed out h = h
-held_output (Capability c) (Contents bytes) kept input passed out h = h
-held_output (Source c) (Contents bytes) kept input passed out h = h
-held_output (Difference d) (Contents bytes) kept input passed out h = h
-held_output action Unread kept input passed out h = h
-held_output action NoMemory kept input passed out h = h
-
 module _ (has_advice : Bool) (action : Action) where
   pub output_leads : (supply : Supply) (kept : List ℕ) (passed : Bool) (out bytes line : List ℕ) (status : ℕ) → HasOutput action kept supply passed out → Finds action passed → bytes ≡ out → line ≡ [] → status ≡ status_for (Ok passed)
       → IsOutcomeOfInput has_advice action supply bytes line status
@@ -210,14 +201,15 @@ module _ (has_advice : Bool) (action : Action) where
   fault_leads (Contents input) kept held why told bytes line status (due, is_kept) holds is_told same none is =
       let OfKept : List ℕ → Type 0 = λ x. IsAnswerLine {V = Bool} (hints has_advice []) action x (Err why) told in
       (Err why, is, (due, none, (told, told_of_kept (hints has_advice []) action kept input why told is_kept (subst OfKept holds is_told), same)))
-  fault_leads Unread kept held why told bytes line status read holds is_told same none is =
+  fault_leads Unread kept held why told bytes line status (read, kept_none) holds is_told same none is =
       (none, same ∙ read_told has_advice action held told why read is_told, is ∙ ap (λ w. status_for (Err w)) read)
-  fault_leads NoMemory kept held why told bytes line status read holds is_told same none is =
+  fault_leads NoMemory kept held why told bytes line status (read, kept_none) holds is_told same none is =
       (none, same ∙ read_told has_advice action held told why read is_told, is ∙ ap (λ w. status_for (Err w)) read)
 
 module _ (action : Action) where
   -- a request of standard input that leads to something, which is delivered
-  pub ran_input : (extras : Extras) (supply : Supply) (V : Type 0) (before between after : Streams) (out line : List ℕ) (code status : ℕ) → IsInput action before.left between.left supply → IsOutcomeOfInput extras.has_advice action supply out line code
-      → ((answer : Option ℕ) × Delivered before.held between.held before.told between.told answer out line code × (status ≡ unwrap_or answer 5) × IfSome answer (λ s. 1 < s → V))
-      → IsSummarized extras.summary (looked supply status) between after → RanInput extras action V before after status
-  ran_input extras supply V before between after out line code status read led delivered sums = (supply, between, read, (out, line, code, led, delivered), sums)
+  pub ran_input : (extras : Extras) (supply : Supply) (V : Type 0) (before between summed after : Streams) (out line : List ℕ) (code status : ℕ) → IsInput action before.left between.left supply → IsOutcomeOfInput extras.has_advice action supply out line code
+      → ((answer : Option ℕ) × Delivered extras.has_advice before.held between.held before.told between.told answer out line code × (status ≡ unwrap_or answer 5) × IfSome answer (λ s. 1 < s → V))
+      → IsSummarized extras.summary (looked supply status) between summed → IsToldLast (pasted_of action supply) summed after → RanInput extras action V before after status
+  ran_input extras supply V before between summed after out line code status read led delivered sums last =
+      (supply, between, summed, read, (out, line, code, led, delivered), sums, last)

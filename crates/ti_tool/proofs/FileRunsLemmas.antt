@@ -155,7 +155,7 @@ module _ (known : KnownFiles) (job : Job) where
   pub did_one : {O F : Type 0} (bytes line : O → List ℕ) (status : O → ℕ) (seen : O → Option Tally) (since : Option Tally) (before after : Streams) (answer : Option ℕ) (file : FileName) (outcome : Result O F) → (is_minus file.name ≡ false → after.left ≡ before.left)
       → IfOk outcome (λ o. (supply : Supply) × IsSupplied known file before.left after.left supply × IsOutcome job file.name supply (bytes o) (line o) (status o) × IsLooked job.summary (looked supply (status o)) (seen o))
       → MatchResult outcome (λ o. since ≡ seen o) (λ _. since ≡ None)
-      → MatchResult outcome (λ o. Delivered before.held after.held before.told after.told answer (bytes o) (line o) (status o)) (λ _. Delivered before.held after.held before.told after.told answer [] (fault_line fault.Memory) 6)
+      → MatchResult outcome (λ o. Delivered job.has_advice before.held after.held before.told after.told answer (bytes o) (line o) (status o)) (λ _. Delivered job.has_advice before.held after.held before.told after.told answer [] (fault_line fault.Memory) 6)
       → DidOne file before after answer since
   did_one bytes line status seen since before after answer file (Ok o) kept (supply, supplied, led, looks) is delivered = (
     record { file = file; supply = supply; out = bytes o; line = line o; status = status o },

@@ -1,11 +1,12 @@
 -- A name means at most one capability of an entry.
 use Rattle.std.proofs.Common.{◌≡◌, ℕ, List, [], ◌∷◌, ◌++◌, take, get_or, refl, sym, ap, ap₂, subst, ◌∙◌, inl, inr, arith}
 use Rattle.ti_words.specs.Items.{ItemValue}
-use Rattle.std.specs.Prelude.{Option, Some, None, codes, slice_get, option_map, unwrap_or}
+use Rattle.std.specs.Prelude.{IfNone, Option, Some, None, codes, slice_get, option_map, unwrap_or}
 use Rattle.std.specs.Str.Parse.{digits_value}
 use Rattle.ti_words.specs.declared.Kind.{Kind}
 use Rattle.ti_words.specs.declared.Kind.TheVariants as kinds
 use Rattle.ti_names.specs.AllNames.{Place}
+use Rattle.ti_names.specs.declared.name_table.NameTable.{NameTable}
 use Rattle.ti_words.specs.Spelling.{part_names}
 use Rattle.ti_words.specs.Value.{EntryValue, NamedPart}
 use Rattle.ti_entry.specs.Finding.{Lacks, names_before, names_of}
@@ -15,7 +16,8 @@ use Rattle.ti_entry.specs.Items.{item_at}
 use Rattle.ti_json.specs.Objects.{kind_word}
 use Rattle.ti_tool.specs.declared.item_name.Names.{Names}
 use Rattle.ti_tool.specs.declared.item_name.Names.TheVariants.{Texts, All}
-use Rattle.ti_tool.specs.ItemNames.{HasKind, IsItemCalled, IsKindLabel, IsLabel, IsPlaceCalled, IsPositionBy, named_by}
+use Rattle.ti_tool.specs.ItemNames.{IsItemCalled, IsKindLabel, IsPlaceCalled, IsPositionBy, IsWordLabel, named_by}
+use Rattle.ti_line.specs.TextLabels.{IsLabel}
 use Rattle.ti_listing.proofs.IsLeastIndexLemmas.{not_there, one_index}
 
 -- ---- labels
@@ -38,20 +40,45 @@ one_kind kinds.Number kinds.Text a b e = let first : 110 ≡ 116 = ap (λ ws. ge
 one_kind kinds.Text kinds.Flag a b e = let first : 116 ≡ 102 = ap (λ ws. get_or ws 0 0) e in absurd (omega (arith, first))
 one_kind kinds.Text kinds.Number a b e = let first : 116 ≡ 110 = ap (λ ws. get_or ws 0 0) e in absurd (omega (arith, first))
 
-one_split : (names : Names) (name : List ℕ) (k l : Kind) (a b : List ℕ) → HasKind names name k a → HasKind names name l b → (k ≡ l) × (a ≡ b)
-one_split (Texts table) name k l a b (is, same) (also, too) = (is ∙ sym also, sym same ∙ too)
-one_split All name k l a b is same = one_kind k l a b (sym is ∙ same)
+-- a label begins with `#`, and so with none of the words
+no_word : (k : Kind) (label name : List ℕ) (index : ℕ) → name ≡ kind_word k ++ label → ¬ IsLabel name index
+no_word kinds.Flag label name index is (digits, same, numeral, few, value) = let first : 102 ≡ 35 = ap (λ ws. get_or ws 0 0) (sym is ∙ same) in absurd (omega (arith, first))
+no_word kinds.Number label name index is (digits, same, numeral, few, value) = let first : 110 ≡ 35 = ap (λ ws. get_or ws 0 0) (sym is ∙ same) in absurd (omega (arith, first))
+no_word kinds.Text label name index is (digits, same, numeral, few, value) = let first : 116 ≡ 35 = ap (λ ws. get_or ws 0 0) (sym is ∙ same) in absurd (omega (arith, first))
 
--- a name is no label if what comes after its kind is none
-pub no_label : (names : Names) (name label : List ℕ) (k : Kind) → HasKind names name k label → ((index : ℕ) → ¬ IsLabel label index) → (l : Kind) (index : ℕ) → ¬ IsKindLabel names name l index
-no_label names name label k is none l index (other, same, labels) =
-    let one = one_split names name l k other label same is in
+-- no word stands before a label if what comes after the word is none
+pub no_word_label : (name label : List ℕ) (k : Kind) → name ≡ kind_word k ++ label → ((index : ℕ) → ¬ IsLabel label index) → (l : Kind) (index : ℕ) → ¬ IsWordLabel name l index
+no_word_label name label k is none l index (other, same, labels) =
+    let one = one_kind l k other label (sym same ∙ is) in
     none index (subst (λ x. IsLabel x index) one.1 labels)
 
+-- a name is no label if it is none as it stands, and may mean a text alone, or no word stands before one
+pub no_label_of_text : (names : Names) (table : NameTable) (name : List ℕ) → names ≡ Texts table → ((index : ℕ) → ¬ IsLabel name index) → (l : Kind) (index : ℕ) → ¬ IsKindLabel names name l index
+no_label_of_text names table name is none l index labels =
+    let Labels : Names → Type 0 = λ n. IsKindLabel n name l index in
+    let bare : (l ≡ kinds.Text) × IsLabel name index = subst Labels is labels in
+    none index bare.1
+
+pub no_label_of_any : (names : Names) (name : List ℕ) (o : Option (Kind × ℕ)) → names ≡ All → ((index : ℕ) → ¬ IsLabel name index)
+    → IfNone o ((l : Kind) (index : ℕ) → ¬ IsWordLabel name l index) → IfNone o ((l : Kind) (index : ℕ) → ¬ IsKindLabel names name l index)
+no_label_of_any names name (Some place) is none after = after
+no_label_of_any names name None is none after = neither
+  where
+    of_any : (l : Kind) (index : ℕ) → ¬ IsKindLabel All name l index
+    of_any l index (inl (text, labels)) = none index labels
+    of_any l index (inr labels) = after l index labels
+
+    neither : (l : Kind) (index : ℕ) → ¬ IsKindLabel names name l index
+    neither l index labels = let Labels : Names → Type 0 = λ n. IsKindLabel n name l index in of_any l index (subst Labels is labels)
+
 one_kind_label : (names : Names) (name : List ℕ) (k l : Kind) (i j : ℕ) → IsKindLabel names name k i → IsKindLabel names name l j → (k ≡ l) × (i ≡ j)
-one_kind_label names name k l i j (a, is, labels) (b, same, others) =
-    let one = one_split names name k l a b is same in
-    (one.0, one_label b i j (subst (λ x. IsLabel x i) one.1 labels) others)
+one_kind_label (Texts table) name k l i j (is, label) (same, other) = (is ∙ sym same, one_label name i j label other)
+one_kind_label All name k l i j (inl (is, label)) (inl (same, other)) = (is ∙ sym same, one_label name i j label other)
+one_kind_label All name k l i j (inl (is, label)) (inr (b, same, other)) = absurd (no_word l b name i same label)
+one_kind_label All name k l i j (inr (a, is, label)) (inl (same, other)) = absurd (no_word k a name j is other)
+one_kind_label All name k l i j (inr (a, is, label)) (inr (b, same, other)) =
+    let one = one_kind k l a b (sym is ∙ same) in
+    (one.0, one_label b i j (subst (λ x. IsLabel x i) one.1 label) other)
 
 -- ---- the first of a name among the entry's own
 

@@ -2,14 +2,15 @@ pub mod Examples
 pub mod IsDueLemmas
 pub mod SourcesLemmas
 pub mod DidCallLemmas
+pub mod PastedLemmas
 pub mod EditsLemmas
 pub mod NearLemmas
 pub mod NearPartLemmas
 pub mod ToldLemmas
 pub mod IsExpansionLemmas
 pub mod NeedsMemoryLemmas
-pub mod IsLabelLemmas
 pub mod DidLineLemmas
+pub mod ExplainedLemmas
 pub mod ReadsIntoLemmas
 pub mod RowsLemmas
 pub mod WideAndBackLemmas

@@ -1,9 +1,10 @@
 -- A request has one verdict, and the contents of a file lead to one result.
 use Rattle.std.proofs.Common.{◌≡◌, ◌≢◌, ◌⊎◌, ◌∙◌, ◌==◌, ℕ, Bool, true, List, [], ◌∷◌, ◌++◌, Ok, Err, inl, inr, ap, ap₂, append-nil, length, map, refl, subst, sym}
 use Rattle.std.specs.Prelude.{Option, None, Some, Result, max, option_and_then}
-use Rattle.ti_words.specs.Items.{FlagItem, ItemValue, NumberItem, TextItem, text_in}
+use Rattle.ti_words.specs.Items.{FlagItem, ItemValue, NumberItem, TextItem, items, text_in}
 use Rattle.ti_words.specs.Texts.{AbsentText, CancelledText, TextOf}
 use Rattle.ti_words.specs.Value.{EntryValue}
+use Rattle.ti_draft.specs.declared.fault.EncodeFault.TheVariants as encode
 use Rattle.ti_entry.proofs.SpellsAtMostOneLemmas.{at_most_one}
 use Rattle.ti_line.specs.declared.options.Document.{Document}
 use Rattle.ti_line.specs.declared.options.Document.TheVariants as documents
@@ -26,6 +27,7 @@ use Rattle.ti_tool.specs.Near.{AreNearest}
 use Rattle.ti_tool.specs.Laws.{AreOneLine, FileHasOneResult, HasOneVerdict, InputHasOneResult, RunsHaveOneResult, untold_line}
 use Rattle.ti_tool.specs.Results.{Finds, IsAnswer, IsDueIn, IsDueOf}
 use Rattle.ti_tool.specs.Statuses.{status_for}
+use Rattle.ti_tool.specs.WideNumbers.{IsWideAdvice, first_wide, wide_advice}
 use Rattle.ti_tool.specs.declared.item_name.Names.TheVariants.{All, Texts}
 use Rattle.ti_tool.proofs.IsItemCalledLemmas.{one_item}
 use Rattle.ti_tool.proofs.NearLemmas.{one_nearest}
@@ -104,10 +106,18 @@ one_entry_advice e input refused advice other (inr (v, spells, (item, named, is)
     let same = subst (λ (x : EntryValue). IsNamed e x its) (at_most_one input w v spelt spells) also in
     is ∙ ap (λ i. advice_if (option_and_then text_in i) refused) (one_named e v item its named same) ∙ sym too
 
+one_wide_advice : (input advice other : List ℕ) → IsWideAdvice input advice → IsWideAdvice input other → advice ≡ other
+one_wide_advice input advice other (inl (r, refuses, is)) (inl (q, again, too)) = is ∙ sym too
+one_wide_advice input advice other (inl (r, refuses, is)) (inr (v, spells, named)) = absurd (never_refused input v r spells refuses)
+one_wide_advice input advice other (inr (v, spells, named)) (inl (r, refuses, is)) = absurd (never_refused input v r spells refuses)
+one_wide_advice input advice other (inr (v, spells, is)) (inr (w, spelt, too)) =
+    is ∙ ap (λ (x : EntryValue). wide_advice (first_wide (items x))) (at_most_one input v w spells spelt) ∙ sym too
+
 one_advice : (front : List ℕ) (action : Action) (input : List ℕ) (why : ToolFault) (advice other : List ℕ) → IsAdvice front action input why advice → IsAdvice front action input why other → advice ≡ other
 one_advice front (Capability c) input (fault.Cap refused) advice other is too = is ∙ sym too
 one_advice front (Source c) input (fault.Cap refused) advice other is too = is ∙ sym too
 one_advice front (Entry e) input (fault.Cap refused) advice other is too = one_entry_advice e input refused advice other is too
+one_advice front (Entry e) input (fault.Encode encode.NumberOutOfRange) advice other is too = one_wide_advice input advice other is too
 one_advice front action input why advice other is too = is ∙ sym too
 
 one_advised : (known : Option (List ℕ)) (action : Action) (input : List ℕ) (why : ToolFault) (advice other : List ℕ) → IsAdvised known action input why advice → IsAdvised known action input why other → advice ≡ other

@@ -127,7 +127,7 @@ one_capped parameters output input (Err e) (Ok b) d (plain, passed, p, is) = abs
 one_capped parameters output input (Err e) (Err f) d h = ap Err (one_unexpanded input parameters e f d h)
 
 one_trace : (form : TraceForm) (input : List ℕ) (parameters : List Value) (a b : List ℕ) → IsTraceAs form input parameters a → IsTraceAs form input parameters b → a ≡ b
-one_trace (trace_forms.Lines form color) input parameters a b is same = is_one_trace input parameters form color a b is same
+one_trace (trace_forms.Lines options) input parameters a b is same = is_one_trace input parameters options a b is same
 one_trace trace_forms.Json input parameters a b (text, is, e) (other, same, f) = e ∙ ap (λ t. t ++ codes "\n") (is_one_trace_json input parameters text other is same) ∙ sym f
 
 one_traced : (parameters : List Value) (form : TraceForm) (input : List ℕ) → IsOneResult (IsTraced parameters form input)

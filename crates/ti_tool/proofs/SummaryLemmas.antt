@@ -8,7 +8,7 @@ use Rattle.ti_tool.specs.FileRuns.{Contents, NoMemory, Supply, Unread, looked}
 use Rattle.ti_tool.specs.Streams.{Streams}
 use Rattle.ti_tool.specs.Summaries.{AreTallied, IsSummarized, IsTally, no_tally, tally_with, with_commas}
 use Rattle.ti_tool.specs.declared.summary.Tally.{Tally}
-use Rattle.ti_tool.specs.inner.Answered.{HasOutput, KeepsEntry}
+use Rattle.ti_tool.specs.inner.Answered.{HasOutput, Keeps, held_of}
 use Rattle.ti_tool.specs.inner.Tallies.{HasContents, IsCounted, IsLooked}
 
 tallied_more : (options : LintOptions) (start t one : Tally) (contents : List (List ℕ)) (bytes : List ℕ) → AreTallied options start contents t → IsTally options bytes one
@@ -46,15 +46,15 @@ pub low_summarized : (summary : Option LintOptions) (contents : List ℕ) (statu
 low_summarized summary contents status a b low sums = let is = le-leb status 1 low in rw is sums
 
 -- what is kept of an entry is what was read of it
-pub kept_summarized : (summary : Option LintOptions) (action : Action) (kept held : List ℕ) (supply : Supply) (passed : Bool) (out : List ℕ) (status : ℕ) (a b : Streams) → HasContents summary action → HasOutput action kept supply passed out
-    → held ≡ kept → IsSummarized summary (looked (Contents held) status) a b → IsSummarized summary (looked supply status) a b
-kept_summarized None action kept held supply passed out status a b wanted due same sums = sums
-kept_summarized (Some options) action kept held (Contents bytes) passed out status a b (e, is) (due, keeps) same sums =
-    let Keeps : Action → Type 0 = λ act. KeepsEntry act kept bytes in
+pub kept_summarized : (summary : Option LintOptions) (action : Action) (kept input held : List ℕ) (supply : Supply) (passed : Bool) (out : List ℕ) (status : ℕ) (a b : Streams) → HasContents summary action
+    → HasOutput action (held_of action kept input) supply passed out → held ≡ kept → IsSummarized summary (looked (Contents held) status) a b → IsSummarized summary (looked supply status) a b
+kept_summarized None action kept input held supply passed out status a b wanted due same sums = sums
+kept_summarized (Some options) action kept input held (Contents bytes) passed out status a b (e, is) (due, keeps) same sums =
+    let Keeping : Action → Type 0 = λ act. Keeps act (held_of act kept input) bytes in
     let Sums : List ℕ → Type 0 = λ x. IsSummarized (Some options) (looked (Contents x) status) a b in
-    subst Sums (same ∙ subst Keeps is keeps) sums
-kept_summarized (Some options) action kept held Unread passed out status a b wanted due same sums = absurd due
-kept_summarized (Some options) action kept held NoMemory passed out status a b wanted due same sums = absurd due
+    subst Sums (same ∙ subst Keeping is keeps) sums
+kept_summarized (Some options) action kept input held Unread passed out status a b wanted due same sums = absurd due
+kept_summarized (Some options) action kept input held NoMemory passed out status a b wanted due same sums = absurd due
 
 -- the parts of the line
 pub parts : (a b c d e f g part1 part2 part3 part4 part5 part6 : List ℕ) → a ≡ [] → b ≡ a ++ part1 → c ≡ b ++ part2 → d ≡ c ++ part3 → e ≡ d ++ part4 → f ≡ e ++ part5 → g ≡ f ++ part6

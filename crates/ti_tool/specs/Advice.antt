@@ -2,6 +2,7 @@
 use Rattle.std.specs.Prelude.{◌≡◌, ◌⊎◌, ◌&&◌, ℕ, Bool, true, false, not, List, [], ◌++◌, Option, Some, None, is_some, Result, Ok, Err, codes, if◌then◌else◌, length, min, nat_le, nat_lt, option_and_then, replicate}
 use Rattle.ti_base.specs.Letters.{letter}
 use Rattle.ti_cap.specs.declared.language.CapRefused.{CapRefused}
+use Rattle.ti_draft.specs.declared.fault.EncodeFault.TheVariants as encode
 use Rattle.ti_escape.specs.Notation.{column, notation}
 use Rattle.ti_layout.specs.Refusal.{refusal}
 use Rattle.ti_layout.specs.declared.fault.Fault.{Fault}
@@ -19,6 +20,7 @@ use Rattle.ti_tool.specs.declared.item_name.Names.TheVariants.{All, Texts}
 use Rattle.ti_tool.specs.ItemNames.{IsItemCalled, place_by}
 use Rattle.ti_tool.specs.Sentences.{cap_sentence, encode_sentence, entry_sentence, notation_sentence}
 use Rattle.ti_tool.specs.Sources.{notation_in, text_of}
+use Rattle.ti_tool.specs.WideNumbers.{IsWideAdvice}
 use Rattle.ti_words.specs.Items.{ItemValue, text_in}
 use Rattle.ti_words.specs.Spelling.{Spells}
 use Rattle.ti_words.specs.Value.{EntryValue}
@@ -108,6 +110,7 @@ IsAdvice front (Capability c) input (fault.Cap refused) advice = advice ≡ text
 IsAdvice front (Source c) input (fault.Cap refused) advice =
     advice ≡ advice_if (read_text (text_of (notation_in (kept_of input)))) refused
 IsAdvice front (Entry e) input (fault.Cap refused) advice = IsEntryAdvice e input refused advice
+IsAdvice front (Entry e) input (fault.Encode encode.NumberOutOfRange) advice = IsWideAdvice input advice
 IsAdvice front action input e advice = advice ≡ plain_advice front action e
 
 -- there is none, unless it is wanted

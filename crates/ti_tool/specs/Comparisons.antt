@@ -79,4 +79,5 @@ AreSupplied known d left0 left1 one two =
 abbrev pub RanDifference : KnownFiles → Bool → Pair → Type 0 → Streams → Streams → ℕ → Type 0
 RanDifference known has_advice d unwritten before after status =
     (one : Supply) × (two : Supply) × AreSupplied known d before.left after.left one two
-    × Ends (IsComparison has_advice d.likeness d.form d.file.now d.other.now one two) unwritten before after status
+    × Ends has_advice (IsComparison has_advice d.likeness d.form d.file.now d.other.now one two) unwritten
+    before after status

@@ -1,10 +1,9 @@
 -- The lines that the program writes on faults, and what was written of one.
-use Rattle.std.specs.Prelude.{◌<◌, ◌⊎◌, ℕ, Bool, true, false, List, [], ◌∷◌, ◌++◌, Option, Result, Ok, Err, codes, decimal, length, nat_le, take, unwrap_or, if◌then◌else◌, ◌≡◌}
+use Rattle.std.specs.Prelude.{◌<◌, ◌⊎◌, ℕ, Bool, true, false, List, [], ◌∷◌, ◌++◌, Option, Result, Ok, Err, codes, decimal, length, take, unwrap_or, if◌then◌else◌, ◌≡◌}
 use Rattle.std.specs.Io.KnownBytes.{Appends}
 use Rattle.ti_layout.specs.Faults.{fault_word}
 use Rattle.ti_draft.specs.EncodeFaults.{encode_fault_word}
 use Rattle.ti_escape.specs.FaultNames.{notation_fault_word}
-use Rattle.ti_escape.specs.Notation.{notation}
 use Rattle.ti_cap.specs.FaultNames.{cap_fault_word}
 use Rattle.ti_names.specs.AllNames.{name_in}
 use Rattle.ti_names.specs.declared.name_table.NameTable.TheVariants as tables
@@ -13,6 +12,7 @@ use Rattle.ti_words.specs.Spelling.{Spells}
 use Rattle.ti_words.specs.Value.{EntryValue}
 use Rattle.ti_tool.specs.Advice.{IsAdvised}
 use Rattle.ti_tool.specs.Near.{AreNearest}
+pub use Rattle.ti_tool.specs.ShownNames.{most_shown, shown_name}
 use Rattle.ti_tool.specs.declared.fault.ToolFault.{ToolFault}
 use Rattle.ti_tool.specs.declared.fault.ToolFault.TheVariants as fault
 use Rattle.ti_line.specs.declared.params.WordFault.{WordFault}
@@ -50,15 +50,6 @@ abbrev pub words_line : WordFault → List ℕ
 words_line words.TooMany = codes "parameters: more than nine\n"
 words_line (words.BadWord which) = codes "parameter " ++ decimal which ++ codes ": bad word\n"
 
--- the most characters of a name in a line on a fault
-abbrev pub most_shown : ℕ
-most_shown = 40
-
--- a name in the notation, or `..` if that has more characters
-abbrev pub shown_name : List ℕ → List ℕ
-shown_name name =
-    if nat_le (length (notation name)) most_shown then notation name else codes ".."
-
 -- the short name of a text of terminfo(5)
 abbrev pub text_named : ℕ → List ℕ
 text_named text = shown_name (unwrap_or (name_in tables.All kinds.Text text) [])
@@ -78,16 +69,21 @@ abbrev pub no_number_line : ℕ → ℕ → List ℕ
 no_number_line text which =
     codes "parameter " ++ decimal which ++ codes " of " ++ text_named text ++ codes ": no 32-bit number\n"
 
+-- the usage of `diff`, as its help has it
+abbrev pub diff_usage : List ℕ
+diff_usage = codes "; usage: ti diff [OPTIONS] [FILE] <OTHER>"
+
 -- the line on what a command line can't ask for
 abbrev pub line_fault_line : LineFault → List ℕ
 line_fault_line line.BothForms = codes "--hex and --escape exclude each other\n"
+line_fault_line line.JsonExplained = codes "--json and --explain exclude each other\n"
 line_fault_line line.JsonForm = codes "--json excludes --escape and --all-names\n"
 line_fault_line line.ColorWord = codes "--color: auto, always or never\n"
 line_fault_line line.BothInputs = codes "--source and --of exclude each other\n"
 line_fault_line line.EntryWithoutName = codes "trace: --entry without --of\n"
 line_fault_line line.BothWidths = codes "convert: both widths\n"
 line_fault_line line.ToTerminal = codes "convert: not to a terminal without --force\n"
-line_fault_line line.FileCount = codes "diff: one file or two\n"
+line_fault_line line.FileCount = codes "diff: one file or two" ++ diff_usage ++ codes "\n"
 line_fault_line line.InputTwice = codes "diff: standard input cannot be compared with itself\n"
 line_fault_line (line.Words why) = words_line why
 line_fault_line (line.Surplus text takes given is_named) = surplus_line text takes given is_named

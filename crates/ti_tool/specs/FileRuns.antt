@@ -12,7 +12,9 @@ use Rattle.ti_line.specs.declared.request.EntryAction.TheVariants as of_entry
 use Rattle.ti_tool.specs.declared.fault.ToolFault.{ToolFault}
 use Rattle.ti_tool.specs.declared.fault.ToolFault.TheVariants as fault
 use Rattle.ti_tool.specs.declared.extras.Extras.{Extras}
-use Rattle.ti_tool.specs.Advice.{hints}
+use Rattle.ti_report.specs.Blocks.{indented}
+use Rattle.ti_tool.specs.Advice.{hints, kept_of}
+use Rattle.ti_tool.specs.Pasted.{pasted_in}
 use Rattle.ti_tool.specs.Calls.{FailsAsDue, IsEnough}
 use Rattle.ti_tool.specs.FaultLines.{IsAnswerLine, Told, fault_line}
 use Rattle.ti_tool.specs.Files.{IsDueOfFile, before_findings, file_line}
@@ -148,21 +150,31 @@ IsOutcome job name (Contents bytes) out line status = IsOutcomeOfContents job na
 IsOutcome job name Unread out line status = IsUnread name out line status
 IsOutcome job name NoMemory out line status = IsRefusedMemory out line status
 
+-- after the line on a failed write comes the reason of the system, in a line, if advice is wanted and memory is not refused
+abbrev pub is_newline : ℕ → Bool
+is_newline byte = byte == 10
+
+abbrev pub IsReason : Bool → List ℕ → Type 0
+IsReason false advice = advice ≡ []
+IsReason true advice =
+    (advice ≡ []) ⊎ ((reason : List ℕ) × (list_any is_newline reason ≡ false) × (advice ≡ indented reason))
+
 -- what a file led to is written, and the status is its; or the writer of results failed at one of its
--- bytes, and the line on that is told
-abbrev pub Delivered : Stream → Stream → Stream → Stream → Option ℕ → List ℕ → List ℕ → ℕ → Type 0
-Delivered held0 held1 told0 told1 (Some s) out line status =
+-- bytes, and the line on that is told, with the reason
+abbrev pub Delivered : Bool → Stream → Stream → Stream → Stream → Option ℕ → List ℕ → List ℕ → ℕ → Type 0
+Delivered has_advice held0 held1 told0 told1 (Some s) out line status =
     (s ≡ status) × Appends held0 held1 out × Told line told0 told1
-Delivered held0 held1 told0 told1 None out line status =
+Delivered has_advice held0 held1 told0 told1 None out line status =
     (gone : ℕ) × (gone < length out) × Appends held0 held1 (take gone out)
-    × Told (fault_line (fault.Write gone)) told0 told1
+    × ((advice : List ℕ) × IsReason has_advice advice × Told (fault_line (fault.Write gone) ++ advice) told0 told1)
 
 -- something leads to an output, a line and a status, which are delivered; after a fault that is no failed write nothing was
 -- written as a result
-abbrev pub Ends : (List ℕ → List ℕ → ℕ → Type 0) → Type 0 → Streams → Streams → ℕ → Type 0
-Ends leads unwritten before after status =
+abbrev pub Ends : Bool → (List ℕ → List ℕ → ℕ → Type 0) → Type 0 → Streams → Streams → ℕ → Type 0
+Ends has_advice leads unwritten before after status =
     (out : List ℕ) × (line : List ℕ) × (code : ℕ) × leads out line code
-    × ((answer : Option ℕ) × Delivered before.held after.held before.told after.told answer out line code
+    × ((answer : Option ℕ)
+    × Delivered has_advice before.held after.held before.told after.told answer out line code
     × (status ≡ unwrap_or answer 5) × IfSome answer (λ s. 1 < s → unwritten))
 
 -- the contents that have an output, which is that of an entry
@@ -185,12 +197,29 @@ IsOutcomeOfInput has_advice action (Contents bytes) out line status =
 IsOutcomeOfInput has_advice action _ out line status =
     (out ≡ []) × (line ≡ fault_line fault.Read) × (status ≡ 5)
 
--- a request of it was carried out, and what was looked at is told if that is wanted
+-- what is said of a notation that has a name before it
+abbrev pub pasted_of : Action → Supply → List ℕ
+pasted_of action (Contents bytes) = pasted_in action (kept_of bytes)
+pasted_of action _ = []
+
+-- a line comes after all others, if there is one
+abbrev pub IsToldLast : List ℕ → Streams → Streams → Type 0
+IsToldLast [] before after = after ≡ before
+IsToldLast (b ∷ bs) before after =
+    (after.left ≡ before.left) × (after.held ≡ before.held) × Told (b ∷ bs) before.told after.told
+
+-- a request of it was carried out, and what was looked at is told if that is wanted, and what is said of a notation
 abbrev pub RanInput : Extras → Action → Type 0 → Streams → Streams → ℕ → Type 0
 RanInput extras action unwritten before after status =
-    (supply : Supply) × (between : Streams) × IsInput action before.left between.left supply
-    × Ends (IsOutcomeOfInput extras.has_advice action supply) unwritten before between status
-    × IsSummarized extras.summary (looked supply status) between after
+    (supply : Supply) × (between : Streams) × (summed : Streams) × IsInput action before.left between.left supply
+    × Ends extras.has_advice (IsOutcomeOfInput extras.has_advice action supply) unwritten before between status
+    × IsSummarized extras.summary (looked supply status) between summed
+    × IsToldLast (pasted_of action supply) summed after
+
+-- nothing is said of what a request may read
+abbrev pub HasNoName : Action → Stream → Stream → Type 0
+HasNoName action left0 left1 =
+    (bytes : List ℕ) → IsInput action left0 left1 (Contents bytes) → pasted_in action (kept_of bytes) ≡ []
 
 -- ---- one after another
 
@@ -209,7 +238,8 @@ pub record DidFile (known : KnownFiles) (job : Job) (before after : Streams) (an
   pub supplied : IsSupplied known done.file before.left after.left done.supply
   pub kept : is_minus done.file.name ≡ false → after.left ≡ before.left
   pub led : IsOutcome job done.file.name done.supply done.out done.line done.status
-  pub delivered : Delivered before.held after.held before.told after.told answer done.out done.line done.status
+  pub delivered :
+      Delivered job.has_advice before.held after.held before.told after.told answer done.out done.line done.status
 
 -- files are done, each with the streams that the one before it left
 abbrev pub DidFiles : KnownFiles → Job → Streams → Streams → List DoneFile → Type 0
@@ -271,5 +301,5 @@ RanFiles known extras e words before after status =
     (record { e = e; are_several = are_several words founds; summary = extras.summary; has_advice = extras.has_advice })
     (flat_map (λ l. l.files) founds) before between code
     × EndsWithNone (lines_on_none e words founds) code between after status)
-    ⊎ (Delivered before.held after.held before.told after.told (Some status) [] (fault_line fault.Memory) 6
+    ⊎ (Delivered extras.has_advice before.held after.held before.told after.told (Some status) [] (fault_line fault.Memory) 6
     × (after.left ≡ before.left))

@@ -1,6 +1,5 @@
 -- Which capability of an entry a name means, and its value.
-use Rattle.std.specs.Prelude.{◌≡◌, ◌≤◌, ◌⊎◌, ℕ, List, [], ◌++◌, length, codes, Option, Some, None, option_map}
-use Rattle.std.specs.Str.Parse.{IsNumeral, digits_value}
+use Rattle.std.specs.Prelude.{◌≡◌, ◌⊎◌, ℕ, List, [], ◌++◌, Option, Some, None, option_map}
 use Rattle.ti_words.specs.Items.{ItemValue}
 use Rattle.ti_words.specs.declared.Kind.{Kind}
 use Rattle.ti_words.specs.declared.Kind.TheVariants as kinds
@@ -11,26 +10,20 @@ use Rattle.ti_entry.specs.declared.finding.Position.{Position}
 use Rattle.ti_entry.specs.declared.finding.Position.TheVariants.{Standard, Extended}
 use Rattle.ti_entry.specs.Items.{item_at}
 use Rattle.ti_json.specs.Objects.{kind_word}
+use Rattle.ti_line.specs.TextLabels.{IsLabel}
 use Rattle.ti_tool.specs.declared.item_name.Names.{Names}
 use Rattle.ti_tool.specs.declared.item_name.Names.TheVariants.{Texts, All}
 
 -- ---- labels
 
--- `#` and one to five digits
-abbrev pub IsLabel : List ℕ → ℕ → Type 0
-IsLabel name index =
-    (digits : List ℕ) × (name ≡ codes "#" ++ digits) × IsNumeral 10 digits × (length digits ≤ 5)
-    × (index ≡ digits_value 10 digits)
+-- the word of a kind stands before a label, as in `flag#10`
+abbrev pub IsWordLabel : List ℕ → Kind → ℕ → Type 0
+IsWordLabel name kind index = (label : List ℕ) × (name ≡ kind_word kind ++ label) × IsLabel label index
 
--- the word of a kind stands before a label, and none if a name may mean a text alone
-abbrev pub HasKind : Names → List ℕ → Kind → List ℕ → Type 0
-HasKind (Texts table) name kind label = (kind ≡ kinds.Text) × (name ≡ label)
-HasKind All name kind label = name ≡ kind_word kind ++ label
-
--- the kind and the index of a label, such as `text#10`
+-- the kind and the index of a label: that of a text may have no word before it, and has none if a name may mean a text alone
 abbrev pub IsKindLabel : Names → List ℕ → Kind → ℕ → Type 0
-IsKindLabel names name kind index =
-    (label : List ℕ) × HasKind names name kind label × IsLabel label index
+IsKindLabel (Texts table) name kind index = (kind ≡ kinds.Text) × IsLabel name index
+IsKindLabel All name kind index = ((kind ≡ kinds.Text) × IsLabel name index) ⊎ IsWordLabel name kind index
 
 -- ---- names
 

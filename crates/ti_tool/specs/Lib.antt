@@ -10,12 +10,16 @@ pub mod Printable
 pub mod Calls
 pub mod Near
 pub mod Sentences
+pub mod ShownNames
+pub mod WideNumbers
 pub mod Advice
 pub mod FaultLines
+pub mod Explained
 pub mod Files
 pub mod Streams
 pub mod Statuses
 pub mod Summaries
+pub mod Pasted
 pub mod FileRuns
 pub mod Comparisons
 pub mod Runs

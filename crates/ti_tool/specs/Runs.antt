@@ -2,7 +2,8 @@
 use Rattle.std.specs.Prelude.{◌≡◌, ◌⊎◌, ◌||◌, ℕ, Bool, true, false, List, [], ◌∷◌, Option, None, Err}
 use Rattle.ti_line.specs.CommandLine.{Command, Reads, Row, files_of, has_summary}
 use Rattle.ti_line.specs.Message.{message_text}
-use Rattle.ti_line.specs.Requests.{Asks, Explains, HasText, IsReadAs}
+use Rattle.ti_line.specs.Requests.{Asks, HasText, IsReadAs, is_explain, texts_of}
+use Rattle.ti_line.specs.Requests.{Explains as GivesNone}
 use Rattle.ti_line.specs.declared.destination.Destination.TheVariants as destinations
 use Rattle.ti_line.specs.declared.no_request.NoRequest.{NoRequest}
 use Rattle.ti_line.specs.declared.no_request.NoRequest.TheVariants as no_request
@@ -11,10 +12,11 @@ use Rattle.ti_line.specs.declared.request.Action.TheVariants.{Difference, Entry,
 use Rattle.ti_tool.specs.declared.extras.Extras.{Extras}
 use Rattle.ti_tool.specs.declared.fault.ToolFault.TheVariants as fault
 use Rattle.ti_tool.specs.declared.terminals.Terminals.{Terminals}
+use Rattle.ti_tool.specs.Explained.{Explains}
 use Rattle.ti_tool.specs.FaultLines.{fault_line, line_fault_line}
-use Rattle.ti_tool.specs.FileRuns.{Ends, RanFiles, RanInput}
+use Rattle.ti_tool.specs.FileRuns.{Ends, HasNoName, RanFiles, RanInput}
 use Rattle.ti_tool.specs.Comparisons.{RanDifference}
-use Rattle.ti_tool.specs.Streams.{KnownFiles, Streams}
+use Rattle.ti_tool.specs.Streams.{KnownFiles, Stream, Streams}
 use Rattle.ti_tool.specs.Summaries.{summary_of}
 use Rattle.ti_lint.specs.declared.lint_options.LintOptions.{LintOptions}
 
@@ -59,29 +61,37 @@ HasNoSummary at words =
     (command : Command) (rows : List Row) (action : Action) → Reads words command rows
     → Asks at.output command rows action → summary_for at words action ≡ None
 
--- there is no request: the result is help, or nothing, with a line on the words, on the fault of the line or on memory. What a
+-- no notation that the words ask to read has a name before it
+abbrev pub HasNoPastedName : Terminals → List (List ℕ) → Stream → Stream → Type 0
+HasNoPastedName at words left0 left1 =
+    (command : Command) (rows : List Row) (action : Action) → Reads words command rows
+    → Asks at.output command rows action → HasNoName action left0 left1
+
+-- there is no request: the result is help, or explains findings, or is nothing, with a line on the words, on the fault of the line or on memory. What a
 -- message says is `clap`'s, which states nothing of it.
 abbrev pub IsSaid : NoRequest → List ℕ → List ℕ → ℕ → Type 0
 IsSaid (no_request.Help message) out line code = (out ≡ message_text message) × (line ≡ []) × (code ≡ 0)
 IsSaid (no_request.Refused message) out line code = (out ≡ []) × (line ≡ message_text message) × (code ≡ 2)
 IsSaid (no_request.Fault why) out line code = (out ≡ []) × (line ≡ line_fault_line why) × (code ≡ 2)
+IsSaid (no_request.Explanation words) out line code = Explains (texts_of words.items) out line code
 IsSaid no_request.Memory out line code = (out ≡ []) × (line ≡ fault_line fault.Memory) × (code ≡ 6)
 
-abbrev pub EndsWords : NoRequest → Type 0 → Streams → Streams → ℕ → Type 0
-EndsWords why = Ends (IsSaid why)
+abbrev pub EndsWords : Bool → NoRequest → Type 0 → Streams → Streams → ℕ → Type 0
+EndsWords has_advice why = Ends has_advice (IsSaid why)
 
--- what a line asks for was done, of the files that it names; or nothing is read, since the line has a fault, or memory was refused
+-- what a line asks for was done, of the files that it names; or nothing is read, since findings are explained, or the line has a
+-- fault, or memory was refused
 abbrev pub DidLine : Terminals → KnownFiles → List (List ℕ) → Command → List Row → Type 0 → Type 0 → Streams → Streams
     → ℕ → Type 0
 DidLine at known words command rows unread unwritten before after status =
-    ((action : Action) × Asks at.output command rows action
+    ((action : Action) × Asks at.output command rows action × (is_explain rows ≡ false)
     × RanRequest known (extras_for at words action) action (files_of words) unwritten before after status)
     ⊎ ((why : NoRequest) × IsReadAs at.output words command rows (Err why)
-    × unread × EndsWords why unwritten before after status)
+    × unread × EndsWords at.errors why unwritten before after status)
 
 -- words that are no line: they ask for help or are refused, with a message of at least one byte, or
 -- memory was refused; nothing is read
 abbrev pub DidNoLine : Terminals → List (List ℕ) → Type 0 → Type 0 → Streams → Streams → ℕ → Type 0
 DidNoLine at words unread unwritten before after status =
-    (why : NoRequest) × Explains at.output words why × HasText why
-    × unread × EndsWords why unwritten before after status
+    (why : NoRequest) × GivesNone at.output words why × HasText why
+    × unread × EndsWords at.errors why unwritten before after status

@@ -52,6 +52,10 @@ entry_sentence bytes entry.HeaderTooBig = codes "an entry has at most 32768 byte
 entry_sentence bytes entry.ExtendedTooBig = codes "an entry has at most 32768 bytes"
 entry_sentence bytes fault = codes "the file is damaged; compile the source again with tic -x"
 
+-- what is said of a number that has no room in 16 bits
+abbrev pub wide_words : List ℕ
+wide_words = codes ", which is above 32767 and needs numbers of 32 bits"
+
 -- of an entry that is written
 abbrev pub encode_sentence : EncodeFault → List ℕ
 encode_sentence encode.NumberOutOfRange = codes "a number is above 32767, which needs numbers of 32 bits"

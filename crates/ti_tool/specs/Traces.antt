@@ -22,7 +22,7 @@ use Rattle.ti_tool.specs.declared.fault.ToolFault.TheVariants as fault
 
 -- the trace of a capability as lines, or as a document of JSON in a line
 abbrev pub IsTraceAs : TraceForm → List ℕ → List Value → List ℕ → Type 0
-IsTraceAs (forms.Lines form color) input parameters out = IsTrace input parameters form color out
+IsTraceAs (forms.Lines options) input parameters out = IsTrace input parameters options out
 IsTraceAs forms.Json input parameters out =
     (text : List ℕ) × IsTraceJson input parameters text × (out ≡ text ++ codes "\n")
 

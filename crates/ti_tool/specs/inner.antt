@@ -6,3 +6,4 @@ pub mod Near
 pub mod ReadsInto
 pub mod Several
 pub mod Tallies
+pub mod Explained

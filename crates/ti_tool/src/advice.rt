@@ -1,4 +1,4 @@
-//! What comes after the line on a fault, for people: the string, a caret below the place, and a sentence.
+//! The advice after the line on a fault, for people: the string, a caret below the place, and a sentence.
 //!
 //! No memory is taken, so there is one advice for each fault.
 
@@ -11,20 +11,22 @@ ghost use Rattle.ti_report.specs.Blocks.{indented as the_indented};
 ghost use Rattle.ti_tool.specs.Advice.{IsAdvised, IsEntryAdvice, IsNamed, advice_if as the_advice_if, any_advice, caret_line, hints, is_other_name as the_is_other_name, name_advice as the_name_advice, most_columns, most_kept, pointed as the_pointed, read_text, refusal_advice as the_refusal_advice, text_advice as the_text_advice};
 ghost use Rattle.ti_tool.specs.Sentences.{most_sentence};
 ghost use Rattle.ti_tool.specs.Sources.{notation_in, text_of};
-ghost use Rattle.ti_words.specs.Items.{item_value, text_in};
+ghost use Rattle.ti_tool.specs.WideNumbers.{IsWideAdvice, wide_advice as the_wide_advice};
+ghost use Rattle.ti_words.specs.Items.{item_value, listed_value, text_in};
 
 use crate::fault::ToolFault;
 use crate::fault_line::{FaultLine, MOST_BYTES};
 use crate::item_name::{Names, item_called};
 use crate::notation::put_text;
 use crate::sentence::{cap_sentence, encode_sentence, entry_sentence, notation_sentence};
+use crate::wide::{first_wide, said_of};
 use arrayvec::ArrayVec;
 use ti_cap::CapRefused;
-use ti_entry::{Entry, Fault, read};
+use ti_entry::{EncodeFault, Entry, Fault, read};
 use ti_escape::{column, escape_into};
 use ti_line::{Action, EntryAction};
 use ti_names::{NameTable, find_short_or_long};
-use ti_words::{Item, Kind, Text};
+use ti_words::{Item, Kind, Number, Subject, Text};
 
 /// The most columns of a string that is shown.
 const MOST_COLUMNS: usize = 256;
@@ -191,6 +193,32 @@ fn source_advice(input: &mut [u8], refused: &CapRefused) -> Advice
     }
 }
 
+/// Of a value that has no room, with its capability.
+fn found_advice(found: Option<(Subject<'_>, Item<'_>)>) -> Advice
+    ensures { result.items ≡ the_wide_advice (option_map listed_value found.entry) }
+{
+    match found {
+        Some((subject, Item::Number(Number::Value(number)))) => {
+            let mut line = ArrayVec::new();
+            let _ = line.try_extend_from_slice(b"  ");
+            let _ = line.try_extend_from_slice(said_of(subject, number).as_slice());
+            let _ = line.try_extend_from_slice(b"\n");
+            line
+        }
+        _ => indented(encode_sentence(EncodeFault::NumberOutOfRange)),
+    }
+}
+
+/// Of the first number that has no room, in the entry that these bytes are.
+fn wide_advice(input: &[u8]) -> Advice
+    ensures { IsWideAdvice input.now result.items }
+{
+    match read(input) {
+        Ok(entry) => found_advice(first_wide(&entry)),
+        Err(_) => found_advice(None),
+    }
+}
+
 /// Whether a name is a standard one, short or long, but none of a string in a table.
 fn is_other_name(table: NameTable, name: &str) -> bool
     ensures { result ≡ the_is_other_name table name.now }
@@ -257,6 +285,7 @@ pub fn advice_on_entry(
     }
     match (action, fault) {
         (_, ToolFault::Cap(refused)) => entry_advice(action, input, refused),
+        (_, ToolFault::Encode(EncodeFault::NumberOutOfRange)) => wide_advice(input),
         (EntryAction::Expand(expand), ToolFault::NoSuchText) => {
             name_advice(expand.name.names, expand.name.name)
         }

@@ -13,10 +13,11 @@ ghost use Rattle.ti_tool.specs.inner.Files.{EndsFile};
 
 use crate::advice::{advised, refusal_advice};
 use crate::command::document::as_line;
+use crate::delivery::deliver_outcome;
 use crate::fault::ToolFault;
 use crate::fault_line::fault_line;
 use crate::file_answer::push_called;
-use crate::files::{Outcome, contents_of, deliver_outcome, fault_outcome, refused_outcome};
+use crate::outcome::{Outcome, contents_of, fault_outcome, refused_outcome};
 use crate::store::Store;
 use std::alloc::{AllocError, Allocator};
 use std::io::{Read, Write};
@@ -25,7 +26,7 @@ use ti_escape::Color;
 use ti_line::{Comparison, Pair};
 use ti_listing::{Difference, difference_of, differing_json, differing_lines, grouped_lines};
 
-/// What contents lead to that are no entry.
+/// Returns the outcome of contents that are no entry.
 fn refusal_outcome<A: Allocator + Copy>(
     alloc: A,
     has_advice: bool,
@@ -75,7 +76,7 @@ fn headed_lines<A: Allocator + Copy>(
     Ok(out)
 }
 
-/// What the entries of two files do not have alike, as it is requested.
+/// Returns the differences of the entries of two files, in the form that is requested.
 fn comparison_text<A: Allocator + Copy>(
     alloc: A,
     pair: &Pair<'_>,
@@ -91,7 +92,7 @@ fn comparison_text<A: Allocator + Copy>(
     }
 }
 
-/// What two entries lead to: what they do not have alike.
+/// Returns the outcome of two entries: their differences.
 fn difference_outcome<'a, A: Allocator + Copy>(
     alloc: A,
     pair: &Pair<'_>,
@@ -114,7 +115,7 @@ fn difference_outcome<'a, A: Allocator + Copy>(
     })
 }
 
-/// What the contents of two files lead to.
+/// Returns the outcome of the contents of two files.
 fn outcome_of_both<A: Allocator + Copy>(
     alloc: A,
     has_advice: bool,
@@ -137,7 +138,7 @@ fn outcome_of_both<A: Allocator + Copy>(
     difference_outcome(alloc, pair, &one, &other)
 }
 
-/// What two files lead to.
+/// Returns the outcome of two files.
 fn outcome_of_pair<S: Store, A: Allocator + Copy, R: Read>(
     store: &S,
     alloc: A,
@@ -186,5 +187,5 @@ pub fn run_pair<S: Store, A: Allocator + Copy, R: Read, W: Write, E: Write>(
     ensures unwritten { MayHaveWritten result ⊎ (output.new ≡ output.old) }
 {
     let outcome = outcome_of_pair(store, alloc, has_advice, pair, input);
-    deliver_outcome(outcome, output, errors).unwrap_or(5)
+    deliver_outcome(alloc, has_advice, outcome, output, errors).unwrap_or(5)
 }

@@ -11,7 +11,7 @@ use std::alloc::Allocator;
 use ti_cap::Capability;
 use ti_expand::{ExpandFault, Value, Vars, expand};
 
-/// What a capability writes with these parameters, if each variable starts as 0.
+/// Returns the output of a capability with these parameters, if each variable starts as 0.
 pub fn expansion_of<A: Allocator + Copy>(
     alloc: A,
     bytes: &[u8],

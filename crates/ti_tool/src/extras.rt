@@ -1,4 +1,4 @@
-//! What a request writes on standard error beside the lines on its faults.
+//! The lines on standard error beside those on faults.
 
 ghost use Rattle.std.specs.Prelude.{◌≡◌, ◌||◌, Bool};
 ghost use Rattle.ti_tool.specs.Runs.{is_source as the_is_source};
@@ -10,7 +10,7 @@ use crate::terminals::Terminals;
 use ti_line::Action;
 use ti_lint::LintOptions;
 
-/// What is wanted on standard error.
+/// The lines on standard error that are wanted.
 #[derive(Clone, Copy)]
 pub struct Extras {
     /// The options of `lint`, if a summary is wanted of it.
@@ -26,7 +26,7 @@ fn is_source(action: &Action<'_>) -> bool
     matches!(action, Action::Source(_))
 }
 
-/// What is wanted: a summary of `lint` at a terminal, or by `--summary`; advice at a terminal, or on a notation.
+/// Returns the extras of a request: a summary of `lint` at a terminal, or by `--summary`; advice at a terminal, or on a notation.
 pub fn extras_of(at: Terminals, has_summary: bool, action: &Action<'_>) -> Extras
     ensures summary { result.summary ≡ the_summary_of (at.errors || has_summary) action.now }
     ensures advice { result.has_advice ≡ (at.errors || the_is_source action.now) }

@@ -3,7 +3,8 @@
 //! A line is put together before any byte of it is written. No memory is taken.
 
 ghost use Rattle.std.specs.Prelude.{◌≡◌, ◌≤◌, ◌+◌, ◌++◌, codes, decimal, flat_map, length, map};
-ghost use Rattle.ti_tool.specs.FaultLines.{action_line, entry_hint as the_entry_hint, fault_line, line_fault_line, place_line, words_line, near_part, no_name_line, no_number_line as the_no_number_line, shown_name as the_shown_name, surplus_line as the_surplus_line, text_named as the_text_named};
+ghost use Rattle.ti_tool.specs.Explained.{unknown_line as the_unknown_line};
+ghost use Rattle.ti_tool.specs.FaultLines.{action_line, diff_usage as the_diff_usage, entry_hint as the_entry_hint, fault_line, line_fault_line, place_line, words_line, near_part, no_name_line, no_number_line as the_no_number_line, shown_name as the_shown_name, surplus_line as the_surplus_line, text_named as the_text_named};
 ghost use Rattle.ti_line.specs.declared.request.Action.TheVariants.{Entry};
 ghost use Rattle.ti_tool.specs.Near.{most_told};
 
@@ -24,7 +25,7 @@ const MOST_WORD_BYTES: usize = 30;
 const MOST_COMMAND_BYTES: usize = 7;
 
 /// The most characters of a name.
-const MOST_SHOWN: usize = 40;
+pub const MOST_SHOWN: usize = 40;
 
 /// The most bytes of the names that are reported, each with what stands before it.
 const MOST_NEAR_BYTES: usize = 153;
@@ -33,7 +34,7 @@ const MOST_NEAR_BYTES: usize = 153;
 pub type FaultLine = ArrayVec<u8, MOST_BYTES>;
 
 /// The pieces of a line one after another.
-fn line_of(pieces: &[&[u8]]) -> FaultLine
+pub(crate) fn line_of(pieces: &[&[u8]]) -> FaultLine
     requires { length (flat_map (λ piece. piece.now) pieces.now) ≤ MOST_BYTES }
     ensures { result.items ≡ flat_map (λ piece. piece.now) pieces.now }
 {
@@ -97,17 +98,24 @@ pub fn fault_line(fault: &ToolFault) -> FaultLine
     }
 }
 
-/// A name in the notation, or `..` if that has too many characters.
-fn shown_name(name: &str) -> ArrayVec<u8, MOST_SHOWN>
+/// The bytes of a name in the notation, or `..` if that has too many characters.
+pub fn shown_bytes(name: &[u8]) -> ArrayVec<u8, MOST_SHOWN>
     ensures { result.items ≡ the_shown_name name.now }
 {
     let mut room = [0; MOST_SHOWN];
     let mut shown = ArrayVec::new();
-    let _ = match escape_into(name.as_bytes(), &mut room) {
+    let _ = match escape_into(name, &mut room) {
         Some(len) => shown.try_extend_from_slice(&room[..len]),
         None => shown.try_extend_from_slice(b".."),
     };
     shown
+}
+
+/// A name in the notation, or `..`.
+fn shown_name(name: &str) -> ArrayVec<u8, MOST_SHOWN>
+    ensures { result.items ≡ the_shown_name name.now }
+{
+    shown_bytes(name.as_bytes())
 }
 
 /// The part of a line that has names, each with what stands before it.
@@ -138,6 +146,17 @@ fn no_name_line(command: &[u8], name: &str, near: &[&str]) -> FaultLine
         b": no such capability",
         near_part(near).as_slice(),
         b"\n",
+    ])
+}
+
+/// The line on a word that no finding has.
+pub fn unknown_line(word: &str) -> FaultLine
+    ensures { result.items ≡ the_unknown_line word.now }
+{
+    line_of(&[
+        b"lint: ",
+        shown_name(word).as_slice(),
+        b": no such finding\n",
     ])
 }
 
@@ -182,7 +201,7 @@ fn text_named(text: usize) -> ArrayVec<u8, MOST_SHOWN>
     shown_name(NameTable::All.text_name(text).unwrap_or(""))
 }
 
-/// What is said of a word that may name a file.
+/// Returns the hint on a word that may name a file.
 fn entry_hint(is_named: bool) -> &'static [u8]
     ensures { result.now ≡ the_entry_hint is_named }
 {
@@ -224,19 +243,27 @@ fn no_number_line(text: usize, which: usize) -> FaultLine
     ])
 }
 
+/// The usage of `diff`, as its help has it.
+fn diff_usage() -> &'static [u8]
+    ensures { result.now ≡ the_diff_usage }
+{
+    b"; usage: ti diff [OPTIONS] [FILE] <OTHER>"
+}
+
 /// The line on what a command line can't ask for.
 pub fn line_fault_line(fault: LineFault) -> FaultLine
     ensures { result.items ≡ line_fault_line fault }
 {
     match fault {
         LineFault::BothForms => line_of(&[b"--hex and --escape exclude each other\n"]),
+        LineFault::JsonExplained => line_of(&[b"--json and --explain exclude each other\n"]),
         LineFault::JsonForm => line_of(&[b"--json excludes --escape and --all-names\n"]),
         LineFault::ColorWord => line_of(&[b"--color: auto, always or never\n"]),
         LineFault::BothInputs => line_of(&[b"--source and --of exclude each other\n"]),
         LineFault::EntryWithoutName => line_of(&[b"trace: --entry without --of\n"]),
         LineFault::BothWidths => line_of(&[b"convert: both widths\n"]),
         LineFault::ToTerminal => line_of(&[b"convert: not to a terminal without --force\n"]),
-        LineFault::FileCount => line_of(&[b"diff: one file or two\n"]),
+        LineFault::FileCount => line_of(&[b"diff: one file or two", diff_usage(), b"\n"]),
         LineFault::InputTwice => {
             line_of(&[b"diff: standard input cannot be compared with itself\n"])
         }

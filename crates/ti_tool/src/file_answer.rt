@@ -114,7 +114,7 @@ pub fn push_called<A: Allocator>(out: &mut Vec<u8, A>, name: &str) -> Result<(),
     }
 }
 
-/// What stands before the first line of each finding in one of several files.
+/// Returns the bytes before the first line of each finding in one of several files.
 fn before_findings<A: Allocator + Copy>(alloc: A, name: &str) -> Result<Vec<u8, A>, AllocError>
     ensures { IfOk result (λ v. v.items ≡ the_before_findings true name.now) }
 {

@@ -1,52 +1,32 @@
 //! The value of the capability that a name means.
 
-ghost use Rattle.std.specs.Prelude.{◌≡◌, ℕ, IfSome, IfNone, List, option_map};
+ghost use Rattle.std.specs.Prelude.{◌≡◌, ℕ, ◌++◌, IfSome, IfNone, List, option_map};
+ghost use Rattle.ti_json.specs.Objects.{kind_word};
 ghost use Rattle.ti_words.specs.Items.{item_value};
 ghost use Rattle.ti_words.specs.declared.Kind.{Kind};
 ghost use Rattle.ti_tool.specs.declared.item_name.Names.TheVariants.{Texts};
-ghost use Rattle.ti_tool.specs.ItemNames.{HasKind, IsItemCalled, IsKindLabel, IsLabel, IsPlaceCalled, IsPositionBy};
+ghost use Rattle.ti_tool.specs.ItemNames.{IsItemCalled, IsKindLabel, IsPlaceCalled, IsPositionBy, IsWordLabel};
 
 use ti_entry::{Entry, Position};
+use ti_line::index_of_label;
 use ti_names::NameTable;
 use ti_words::{Item, Kind};
 
-/// The most digits of an index.
-const MOST_DIGITS: usize = 5;
-
-/// What a name may mean.
+/// The names that are known.
 #[derive(Clone, Copy)]
 pub enum Names {
     /// A text: `#` and one to five digits give its index; else it has the name in a table, or an extended one has it.
     Texts(NameTable),
-    /// A capability of any kind: `flag#`, `number#` or `text#` and one to five digits give its index; else the name is
-    /// a short one of terminfo(5), a long one, or an extended one.
+    /// A capability of any kind: `flag#`, `number#`, `text#` or `#` and one to five digits give its index, `#` that of a
+    /// text; else the name is a short one of terminfo(5), a long one, or an extended one.
     All,
 }
 
-/// The index that `#` and one to five digits mean.
-fn index_of(name: &str) -> Option<usize>
-    ensures some { IfSome result (λ index. IsLabel name.now index) }
-    ensures none { IfNone result ((index : ℕ) → ¬ IsLabel name.now index) }
+/// The kind whose word a name begins with, and what stands after it.
+fn after_kind(name: &str) -> Option<(Kind, &str)>
+    ensures some { IfSome result (λ p. name.now ≡ kind_word p.0 ++ p.1.now) }
+    ensures none { IfNone result ((kind : Kind) (label : List ℕ) → ¬ (name.now ≡ kind_word kind ++ label)) }
 {
-    match name.strip_prefix("#") {
-        Some(digits) => {
-            if digits.len() > MOST_DIGITS || digits.starts_with('+') {
-                return None;
-            }
-            digits.parse::<usize>().ok()
-        }
-        None => None,
-    }
-}
-
-/// The kind whose word a name begins with, if it may be of any kind, and what stands after it.
-fn after_kind(name: &str, names: Names) -> Option<(Kind, &str)>
-    ensures some { IfSome result (λ p. HasKind names name.now p.0 p.1.now) }
-    ensures none { IfNone result ((kind : Kind) (label : List ℕ) → ¬ HasKind names name.now kind label) }
-{
-    if let Names::Texts(_) = names {
-        return Some((Kind::Text, name));
-    }
     if let Some(label) = name.strip_prefix("flag") {
         return Some((Kind::Flag, label));
     }
@@ -59,17 +39,31 @@ fn after_kind(name: &str, names: Names) -> Option<(Kind, &str)>
     }
 }
 
-/// The kind and the index that a name such as `text#10` has.
-fn place_of_label(name: &str, names: Names) -> Option<(Kind, usize)>
-    ensures some { IfSome result (λ p. IsKindLabel names name.now p.0 p.1) }
-    ensures none { IfNone result ((kind : Kind) (index : ℕ) → ¬ IsKindLabel names name.now kind index) }
+/// The kind and the index that a name such as `flag#10` has.
+fn place_after_word(name: &str) -> Option<(Kind, usize)>
+    ensures some { IfSome result (λ p. IsWordLabel name.now p.0 p.1) }
+    ensures none { IfNone result ((kind : Kind) (index : ℕ) → ¬ IsWordLabel name.now kind index) }
 {
-    match after_kind(name, names) {
-        Some((kind, label)) => match index_of(label) {
+    match after_kind(name) {
+        Some((kind, label)) => match index_of_label(label) {
             Some(index) => Some((kind, index)),
             None => None,
         },
         None => None,
+    }
+}
+
+/// The kind and the index that a name such as `#10` or `text#10` has.
+fn place_of_label(name: &str, names: Names) -> Option<(Kind, usize)>
+    ensures some { IfSome result (λ p. IsKindLabel names name.now p.0 p.1) }
+    ensures none { IfNone result ((kind : Kind) (index : ℕ) → ¬ IsKindLabel names name.now kind index) }
+{
+    match index_of_label(name) {
+        Some(index) => Some((Kind::Text, index)),
+        None => match names {
+            Names::Texts(_) => None,
+            Names::All => place_after_word(name),
+        },
     }
 }
 

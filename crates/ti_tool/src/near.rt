@@ -101,7 +101,7 @@ fn standard_text<'n>(table: NameTable, kind: Kind, index: usize) -> Option<&'n s
     table.name_at(kind, index)
 }
 
-/// What is found among the names of a kind in a table.
+/// Returns the nearest names of a kind in a table.
 fn nearest_in<'n, A: Allocator + Copy>(
     alloc: A,
     sought: &SoughtName<'_, 'n>,
@@ -123,7 +123,7 @@ fn nearest_in<'n, A: Allocator + Copy>(
     Ok(best)
 }
 
-/// What is found among all names of a table.
+/// Returns the nearest names of a table.
 fn nearest_of<'n, A: Allocator + Copy>(
     alloc: A,
     sought: &SoughtName<'_, 'n>,
@@ -160,7 +160,7 @@ fn nearer_extended<'n, A: Allocator + Copy>(
     }
 }
 
-/// What is found among the names of an entry's extended capabilities.
+/// Returns the nearest names of an entry's extended capabilities.
 fn nearest_extended<'n, A: Allocator + Copy>(
     alloc: A,
     sought: &SoughtName<'_, 'n>,

@@ -6,8 +6,8 @@ ghost use Rattle.ti_line.specs.Requests.{texts_of};
 ghost use Rattle.ti_line.specs.declared.request.Action.TheVariants.{Entry};
 ghost use Rattle.ti_tool.specs.Advice.{hints, most_kept};
 ghost use Rattle.ti_tool.specs.FaultLines.{AreTold, AreToldFor, IsAnswerLine};
-ghost use Rattle.ti_tool.specs.FileRuns.{RanInput};
-ghost use Rattle.ti_tool.specs.Runs.{DidLine, DidNoLine, EndsWords, HasNoSummary, MayHaveWritten, RanRequest, no_terminals};
+ghost use Rattle.ti_tool.specs.FileRuns.{HasNoName, IsToldLast, RanInput};
+ghost use Rattle.ti_tool.specs.Runs.{DidLine, DidNoLine, EndsWords, HasNoPastedName, HasNoSummary, MayHaveWritten, RanRequest, no_terminals};
 ghost use Rattle.ti_tool.specs.inner.Answered.{held_of};
 ghost use Rattle.ti_tool.specs.inner.Tallies.{HasContents};
 ghost use Rattle.ti_tool.specs.Streams.{Stream, streams, unknown_files};
@@ -18,11 +18,14 @@ use crate::advice::{
 };
 use crate::call::answer_of_input;
 use crate::comparison::run_pair;
+use crate::delivery::{Ending, deliver_last, line_alone};
+use crate::explained::run_explanation;
 use crate::extras::{Extras, extras_of};
 use crate::fault::ToolFault;
 use crate::fault_line::{FaultLine, action_line, fault_line, line_fault_line};
-use crate::files::{deliver_last, run_files};
+use crate::files::run_files;
 use crate::near::{NearNames, nearest_names};
+use crate::pasted::pasted_in;
 use crate::status::status;
 use crate::store::{NoStore, Store};
 use crate::summary::report_contents;
@@ -32,6 +35,7 @@ use std::alloc::{AllocError, Allocator, Global};
 use std::io::{Read, Write};
 use ti_entry::{EntryReader, read};
 use ti_line::{Action, EntryAction, Get, NoRequest, Request, TraceOf, read_line};
+use ti_pad::write_out;
 
 /// The names that are reported in place of a word: the nearest ones, also of the entry that was read. None if memory is refused.
 fn names_for<'n, A: Allocator + Copy>(alloc: A, word: &str, input: &'n [u8]) -> NearNames<'n>
@@ -105,7 +109,17 @@ fn answer_line<A: Allocator + Copy>(
     }
 }
 
-/// Carries out a request of standard input, which no word names. A fault is reported, or what was looked at, if that is wanted.
+/// Reports a line after all others, if there is one.
+fn report_last<E: Write>(line: &[u8], errors: &mut E)
+    ensures silent { line.now ≡ [] → errors.new ≡ errors.old }
+    ensures told { (left held : Stream) → IsToldLast line.now
+        (streams left held (E.contents errors.old)) (streams left held (E.contents errors.new)) }
+{
+    let _ = write_out(errors, line);
+}
+
+/// Carries out a request of standard input, which no word names. A fault is reported, or what was looked at, if that is wanted,
+/// and a name before a notation.
 fn run_input<A: Allocator + Copy, R: Read, W: Write, E: Write>(
     alloc: A,
     extras: Extras,
@@ -119,22 +133,35 @@ fn run_input<A: Allocator + Copy, R: Read, W: Write, E: Write>(
         (streams (R.remaining input.old) (W.contents output.old) (E.contents errors.old))
         (streams (R.remaining input.new) (W.contents output.new) (E.contents errors.new)) result }
     ensures known { result ≢ 2 }
-    ensures silent { extras.summary ≡ None → result ≤ 1 → errors.new ≡ errors.old }
+    ensures silent { extras.summary ≡ None
+        → HasNoName action.now (R.remaining input.old) (R.remaining input.new)
+        → result ≤ 1 → errors.new ≡ errors.old }
     ensures unwritten { MayHaveWritten result ⊎ (output.new ≡ output.old) }
 {
     let mut kept = EntryReader::new();
     let mut text = ArrayVec::new();
-    match answer_of_input(alloc, action, &mut kept, &mut text, input) {
+    let answer = answer_of_input(alloc, action, &mut kept, &mut text, input);
+    let pasted = pasted_in(action, text.as_slice());
+    match answer {
         Ok(answer) => {
             let status = status(&Ok(answer.passed));
-            let status = deliver_last(answer.bytes.as_slice(), b"", status, output, errors);
+            let ending = Ending {
+                bytes: answer.bytes.as_slice(),
+                line: b"",
+                status,
+            };
+            let status = deliver_last(alloc, extras.has_advice, ending, output, errors);
             report_contents(alloc, extras.summary, kept.bytes(), status, errors);
+            report_last(pasted.as_slice(), errors);
             status
         }
         Err(fault) => {
             let (has_advice, text) = (extras.has_advice, text.as_mut_slice());
             let line = answer_line(alloc, has_advice, action, kept.bytes(), text, &fault);
-            deliver_last(b"", line.as_slice(), status(&Err(fault)), output, errors)
+            let ending = line_alone(line.as_slice(), status(&Err(fault)));
+            let status = deliver_last(alloc, has_advice, ending, output, errors);
+            report_last(pasted.as_slice(), errors);
+            status
         }
     }
 }
@@ -156,7 +183,9 @@ fn run_request<S: Store, A: Allocator + Copy, R: Read, W: Write, E: Write>(
         (streams (R.remaining input.old) (W.contents output.old) (E.contents errors.old))
         (streams (R.remaining input.new) (W.contents output.new) (E.contents errors.new)) result }
     ensures known { result ≢ 2 }
-    ensures silent { extras.summary ≡ None → result ≤ 1 → errors.new ≡ errors.old }
+    ensures silent { extras.summary ≡ None
+        → HasNoName action.now (R.remaining input.old) (R.remaining input.new)
+        → result ≤ 1 → errors.new ≡ errors.old }
     ensures unwritten { texts_of files.now ≡ []
         → MayHaveWritten result ⊎ (output.new ≡ output.old) }
 {
@@ -174,9 +203,15 @@ fn run_request<S: Store, A: Allocator + Copy, R: Read, W: Write, E: Write>(
     }
 }
 
-/// Words that request nothing: the text of help goes where results go, any other where faults go.
-fn run_no_request<W: Write, E: Write>(why: &NoRequest, output: &mut W, errors: &mut E) -> u8
-    ensures ends { (left0 left1 : Stream) → EndsWords why.now (output.new ≡ output.old)
+/// Words that request nothing: the texts of help and of explanations go where results go, any other where faults go.
+fn run_no_request<A: Allocator + Copy, W: Write, E: Write>(
+    alloc: A,
+    has_advice: bool,
+    why: &NoRequest<'_>,
+    output: &mut W,
+    errors: &mut E,
+) -> u8
+    ensures ends { (left0 left1 : Stream) → EndsWords has_advice why.now (output.new ≡ output.old)
         (streams left0 (W.contents output.old) (E.contents errors.old))
         (streams left1 (W.contents output.new) (E.contents errors.new)) result }
     ensures silent { result ≤ 1 → errors.new ≡ errors.old }
@@ -184,22 +219,29 @@ fn run_no_request<W: Write, E: Write>(why: &NoRequest, output: &mut W, errors: &
 {
     match why {
         NoRequest::Help(message) => {
-            deliver_last(message.as_str().as_bytes(), b"", 0, output, errors)
+            let ending = Ending {
+                bytes: message.as_str().as_bytes(),
+                line: b"",
+                status: 0,
+            };
+            deliver_last(alloc, has_advice, ending, output, errors)
         }
         NoRequest::Refused(message) => {
-            deliver_last(b"", message.as_str().as_bytes(), 2, output, errors)
+            let ending = line_alone(message.as_str().as_bytes(), 2);
+            deliver_last(alloc, has_advice, ending, output, errors)
         }
         NoRequest::Fault(fault) => {
-            deliver_last(b"", line_fault_line(*fault).as_slice(), 2, output, errors)
+            let line = line_fault_line(*fault);
+            let ending = line_alone(line.as_slice(), 2);
+            deliver_last(alloc, has_advice, ending, output, errors)
         }
         NoRequest::Memory => {
-            deliver_last(
-                b"",
-                fault_line(&ToolFault::Memory).as_slice(),
-                6,
-                output,
-                errors,
-            )
+            let line = fault_line(&ToolFault::Memory);
+            let ending = line_alone(line.as_slice(), 6);
+            deliver_last(alloc, has_advice, ending, output, errors)
+        }
+        NoRequest::Explanation(words) => {
+            run_explanation(alloc, has_advice, words.as_slice(), output, errors)
         }
     }
 }
@@ -210,9 +252,9 @@ fn run_no_request<W: Write, E: Write>(why: &NoRequest, output: &mut W, errors: &
 ///
 /// | Status | When | Line on `errors` |
 /// |---|---|---|
-/// | 0 | done, or help was requested | none, but a summary of `lint` that is wanted |
+/// | 0 | done, or help or explanations were requested | none, but a summary of `lint` that is wanted, or a line on a notation that has a name and `=` before it |
 /// | 1 | `check` found a fault, `lint` something wrong, `diff` a difference, or the flag of `get` is not set | the same |
-/// | 2 | the words are no command line or no parameters, or such as do not fit the capability, or request both widths, or both forms of an output, or an entry at a terminal, or to compare no file, more than two, or standard input with itself | what is wrong and the usage; `parameters: more than nine`; `parameters: NAME takes N, not K`; `parameter K: bad word`; `parameter K of NAME: no 32-bit number`; `convert: both widths`; `--hex and --escape exclude each other`; `--source and --of exclude each other`; `trace: --entry without --of`; `convert: not to a terminal without --force`; `diff: one file or two`; `diff: standard input cannot be compared with itself` |
+/// | 2 | the words are no command line or no parameters, or such as do not fit the capability, or request both widths, or both forms of an output, or an entry at a terminal, or to compare no file, more than two, or standard input with itself, or to explain a word that no finding has, or in JSON | what is wrong and the usage; `parameters: more than nine`; `parameters: NAME takes N, not K`; `parameter K: bad word`; `parameter K of NAME: no 32-bit number`; `convert: both widths`; `--hex and --escape exclude each other`; `--source and --of exclude each other`; `trace: --entry without --of`; `convert: not to a terminal without --force`; `diff: one file or two` and the usage; `diff: standard input cannot be compared with itself`; `lint: WORD: no such finding`; `--json and --explain exclude each other` |
 /// | 3 | the entry is refused, or can't be encoded | `entry: WORD at PLACE`; `entry: WORD` |
 /// | 4 | the capability or its notation is refused, or it is absent, a text is too long for it, or its padding too much | `capability: WORD at PLACE`; `source: WORD at PLACE`; `capability: absent`; `get: NAME: absent`; `trace: NAME: no such text`; `get: NAME: no such capability`, and the same of `trace`; `capability: TextTooLong K`; `capability: TooMuch N` |
 /// | 5 | reading or writing failed | `input: failed`; `output: failed` |
@@ -255,8 +297,10 @@ pub fn run_at<S: Store, A: Allocator + Copy, R: Read, W: Write, E: Write>(
     // If the words name no file, the writer of results is what it was after any other status than 0, 1 and 5.
     ensures unwritten { files_of (texts_of words.now) ≡ []
         → MayHaveWritten result ⊎ (output.new ≡ output.old) }
-    // Without a fault nothing is written to `errors`, but a summary.
-    ensures silent { HasNoSummary at (texts_of words.now) → result ≤ 1 → errors.new ≡ errors.old }
+    // Without a fault nothing is written to `errors`, but a summary, and a line on a notation with a name before it.
+    ensures silent { HasNoSummary at (texts_of words.now)
+        → HasNoPastedName at (texts_of words.now) (R.remaining input.old) (R.remaining input.new)
+        → result ≤ 1 → errors.new ≡ errors.old }
 {
     match read_line(global, at.output, &*words) {
         Ok(request) => {
@@ -269,7 +313,7 @@ pub fn run_at<S: Store, A: Allocator + Copy, R: Read, W: Write, E: Write>(
             let extras = extras_of(at, has_summary, &action);
             run_request(store, alloc, extras, &action, &files, input, output, errors)
         }
-        Err(why) => run_no_request(&why, output, errors),
+        Err(why) => run_no_request(alloc, at.errors, &why, output, errors),
     }
 }
 
@@ -309,8 +353,10 @@ pub fn run<A: Allocator + Copy, R: Read, W: Write, E: Write>(
     // If the words name no file, the writer of results is what it was after any other status than 0, 1 and 5.
     ensures unwritten { files_of (texts_of words.now) ≡ []
         → MayHaveWritten result ⊎ (output.new ≡ output.old) }
-    // Without a fault nothing is written to `errors`, but a summary.
-    ensures silent { HasNoSummary no_terminals (texts_of words.now) → result ≤ 1 → errors.new ≡ errors.old }
+    // Without a fault nothing is written to `errors`, but a summary, and a line on a notation with a name before it.
+    ensures silent { HasNoSummary no_terminals (texts_of words.now)
+        → HasNoPastedName no_terminals (texts_of words.now) (R.remaining input.old) (R.remaining input.new)
+        → result ≤ 1 → errors.new ≡ errors.old }
 {
     let at = Terminals::NONE;
     run_at(&NoStore, global, alloc, at, words, input, output, errors)

@@ -1,9 +1,15 @@
-//! Why the system does not give a file.
+//! Why the system does not give a file, or take a result.
 
-ghost use Rattle.std.specs.Prelude.{◌≡◌, ◌++◌, Bool, List, ℕ, IfOk, OnOk, codes};
+ghost use Rattle.std.specs.Prelude.{◌≡◌, ◌++◌, Bool, List, ℕ, IfOk, OnOk, codes, true};
 ghost use Rattle.std.specs.List.{list_any};
-ghost use Rattle.ti_tool.specs.FileRuns.{is_no_name_byte as the_is_no_name_byte, may_be_terminal as the_may_be_terminal, path_hint, path_words};
+ghost use Rattle.ti_report.specs.Blocks.{indented};
+ghost use Rattle.ti_tool.specs.FaultLines.{fault_line as the_fault_line};
+ghost use Rattle.ti_tool.specs.declared.fault.ToolFault.TheVariants as fault;
+ghost use Rattle.ti_tool.specs.FileRuns.{IsReason, is_newline, is_no_name_byte as the_is_no_name_byte, may_be_terminal as the_may_be_terminal, path_hint, path_words};
 
+use crate::fault::ToolFault;
+use crate::fault_line::fault_line;
+use crate::noted::Stop;
 use std::alloc::{AllocError, Allocator};
 use std::io;
 use std::io::ErrorKind;
@@ -54,7 +60,7 @@ fn push_hint<A: Allocator>(
     }
 }
 
-/// What the system says, without its number.
+/// Returns the system's reason, without its number.
 fn without_number(said: &str) -> &str {
     match said.split_once(" (os error ") {
         Some((before, _)) => before,
@@ -77,4 +83,48 @@ pub fn reason_line<A: Allocator + Copy>(
     push_hint(&mut line, error.kind() == ErrorKind::NotFound, name)?;
     line.push(b'\n')?;
     Ok(line)
+}
+
+/// Whether words are more than one line.
+fn has_newline(words: &[u8]) -> bool
+    ensures { result ≡ list_any is_newline words.now }
+{
+    words.iter().any(|byte| *byte == b'\n')
+}
+
+/// Writes the reason in a line of its own, unless it is more than one line.
+fn push_reason<A: Allocator + Copy>(
+    alloc: A,
+    out: &mut Vec<u8, A>,
+    error: &io::Error,
+) -> Result<(), AllocError>
+    ensures { OnOk result ((advice : List ℕ) × IsReason true advice
+        × (out.new.items ≡ out.old.items ++ advice)) }
+{
+    let said = format!(in alloc; "{error}")?;
+    let reason = without_number(said.as_str()).as_bytes();
+    if has_newline(reason) {
+        return Ok(());
+    }
+    out.extend_from_slice(b"  ")?;
+    out.extend_from_slice(reason)?;
+    out.push(b'\n')?;
+    Ok(())
+}
+
+/// The line on a failed write, and after it the reason, if advice is wanted.
+pub fn stop_lines<A: Allocator + Copy>(
+    alloc: A,
+    has_advice: bool,
+    stop: &Stop,
+) -> Result<Vec<u8, A>, AllocError>
+    ensures { IfOk result (λ lines. (advice : List ℕ) × IsReason has_advice advice
+        × (lines.items ≡ the_fault_line (fault.Write stop.now.gone) ++ advice)) }
+{
+    let mut lines = Vec::new(alloc);
+    lines.extend_from_slice(fault_line(&ToolFault::Write(stop.gone)).as_slice())?;
+    if let (true, Some(error)) = (has_advice, &stop.error) {
+        push_reason(alloc, &mut lines, error)?;
+    }
+    Ok(lines)
 }

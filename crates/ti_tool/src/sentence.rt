@@ -1,7 +1,7 @@
-//! What a fault says to a person, and what to do about it.
+//! A sentence on each fault for a person, and what to do about it.
 
 ghost use Rattle.std.specs.Prelude.{◌≡◌, ◌≤◌, length};
-ghost use Rattle.ti_tool.specs.Sentences.{cap_sentence as the_cap_sentence, encode_sentence as the_encode_sentence, entry_sentence as the_entry_sentence, front_sentence as the_front_sentence, most_sentence, notation_sentence as the_notation_sentence};
+ghost use Rattle.ti_tool.specs.Sentences.{cap_sentence as the_cap_sentence, encode_sentence as the_encode_sentence, entry_sentence as the_entry_sentence, front_sentence as the_front_sentence, most_sentence, notation_sentence as the_notation_sentence, wide_words as the_wide_words};
 
 use ti_cap::CapFault;
 use ti_entry::{EncodeFault, Fault};
@@ -86,6 +86,14 @@ pub fn entry_sentence(bytes: &[u8], fault: Fault) -> &'static str
         | Fault::BadExtendedHeader
         | Fault::BadExtendedName => { "the file is damaged; compile the source again with tic -x" }
     }
+}
+
+/// Of a number that has no room in 16 bits, after it.
+pub fn wide_words() -> &'static str
+    ensures value { result.now ≡ the_wide_words }
+    ensures few { length result.now ≤ most_sentence }
+{
+    ", which is above 32767 and needs numbers of 32 bits"
 }
 
 /// Of an entry that is written.

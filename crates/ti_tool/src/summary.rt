@@ -108,7 +108,7 @@ pub fn look_at<A: Allocator + Copy>(
     }
 }
 
-/// What was looked at before, and what was looked at since, if anything.
+/// Adds a tally, if there is one, to another.
 pub fn more(before: Tally, since: Option<Tally>) -> Tally
     ensures { (summary : Option LintOptions) (contents looked : List (List ℕ))
         → IsCounted summary contents before → IsLooked summary looked since

@@ -1,4 +1,4 @@
-//! What `check` finds of a text.
+//! The verdict of `check` on a text.
 //!
 //! A text is analysed once for each run of equal texts, since texts of an entry may share a long slice.
 

@@ -20,8 +20,11 @@ use Rattle.ti_expand.specs.declared.step.Outcome.TheVariants.{Ran, PassedOver}
 use Rattle.ti_trace.specs.Columns.{at_left, at_right, header}
 use Rattle.ti_trace.specs.Footer.{footer}
 use Rattle.ti_trace.specs.Items.{item, items}
+use Rattle.ti_trace.specs.declared.options.TraceRows.TheVariants.{Joined}
+use Rattle.ti_trace.specs.Joined.{joined}
 use Rattle.ti_trace.specs.Lines.{token_line}
 use Rattle.ti_trace.specs.Objects.{token_object, totals_object}
+use Rattle.ti_trace.specs.Trace.{row_lines}
 use Rattle.ti_trace.specs.Told.{Spelled, TracedToken, first_state, traced_pass}
 
 -- ---- columns
@@ -135,3 +138,40 @@ other_body : flat_map (token_line Notation Never) (traced_pass 0 Run (first_stat
     ++ codes "   22\t%;             \tran    \t-                      \t-\n"
 unfolding int_wrap digits encode_with spelled choice
 other_body = refl
+
+-- ---- joined rows
+
+-- bytes that stand for themselves are joined, with the place of the first, the stack of the last and what all wrote
+joined_row : joined (told_of 4 (27 ∷ []) Ran [] (27 ∷ []) ∷ told_of 5 (codes "[") Ran (Num (pos 1) ∷ []) (codes "[") ∷ told_of 6 (codes "H") Ran (Num (pos 2) ∷ []) (codes "H") ∷ [])
+    ≡ told_of 4 (27 ∷ codes "[H") Ran (Num (pos 2) ∷ []) (27 ∷ codes "[H") ∷ []
+unfolding told_of
+joined_row = refl
+
+-- `%%` is an escape
+percent_row : joined (told_of 0 (codes "a") Ran [] (codes "a") ∷ told_of 1 (codes "%%") Ran [] (codes "%") ∷ told_of 3 (codes "b") Ran [] (codes "b") ∷ [])
+    ≡ told_of 0 (codes "a") Ran [] (codes "a") ∷ told_of 1 (codes "%%") Ran [] (codes "%") ∷ told_of 3 (codes "b") Ran [] (codes "b") ∷ []
+unfolding told_of
+percent_row = refl
+
+-- one that ran and one that did not are two rows
+apart_row : joined (told_of 0 (codes "a") Ran [] (codes "a") ∷ told_of 1 (codes "b") PassedOver [] [] ∷ told_of 2 (codes "c") PassedOver [] [] ∷ [])
+    ≡ told_of 0 (codes "a") Ran [] (codes "a") ∷ told_of 1 (codes "bc") PassedOver [] [] ∷ []
+unfolding told_of
+apart_row = refl
+
+-- `%?%p1%tab%ecd%;` of 7
+arms : List Spelled
+arms =
+    spelled CondOpen (codes "%?") ∷ spelled (Param 1) (codes "%p1") ∷ spelled CondThen (codes "%t") ∷ spelled (Byte 97) (codes "a") ∷ spelled (Byte 98) (codes "b")
+    ∷ spelled CondElse (codes "%e") ∷ spelled (Byte 99) (codes "c") ∷ spelled (Byte 100) (codes "d") ∷ spelled CondClose (codes "%;") ∷ []
+
+joined_arms : row_lines (record { form = Notation; color = Never; rows = Joined }) (traced_pass 0 Run (first_state (Num (pos 7) ∷ replicate 8 (Num (pos 0)))) arms)
+    ≡ codes "    0\t%?             \tran    \t-                      \t-\n"
+    ++ codes "    2\t%p1            \tran    \t7                      \t-\n"
+    ++ codes "    5\t%t             \tran    \t-                      \t-\n"
+    ++ codes "    7\tab             \tran    \t-                      \tab\n"
+    ++ codes "    9\t%e             \tran    \t-                      \t-\n"
+    ++ codes "   11\tcd             \tpassed \t-                      \t-\n"
+    ++ codes "   13\t%;             \tran    \t-                      \t-\n"
+unfolding int_wrap digits encode_with spelled arms
+joined_arms = refl

@@ -1,6 +1,7 @@
 pub mod CutLemmas
 pub mod Examples
 pub mod FaultLemmas
+pub mod JoinedLemmas
 pub mod ObjectLemmas
 pub mod OneTraceLemmas
 pub mod PlainLemmas

@@ -31,8 +31,8 @@ one_told capability parameters a b p q =
     ∙ ap (λ (t : Totals). record { tokens = b.tokens; totals = t }) totals
 
 pub is_one_trace : IsOneTrace
-is_one_trace capability parameters form color one other (a, is, made) (b, same, also) =
-    made ∙ ap (trace_text form color) (one_told capability parameters a b is same) ∙ sym also
+is_one_trace capability parameters options one other (a, is, made) (b, same, also) =
+    made ∙ ap (trace_text options) (one_told capability parameters a b is same) ∙ sym also
 
 pub is_one_trace_json : IsOneTraceJson
 is_one_trace_json capability parameters one other (objects, (a, is, of), made) (rest, (b, same, like), also) =

@@ -20,6 +20,7 @@ use Rattle.ti_json.proofs.TextLemmas.{decimal_text, signed_text}
 use Rattle.ti_trace.specs.Columns.{at_left, at_right, blanks, header, place_width, run_width, stack_width, token_width}
 use Rattle.ti_trace.specs.Footer.{footer, number_line}
 use Rattle.ti_trace.specs.Items.{cut_text, item, items, later_items, most_shown}
+use Rattle.ti_trace.specs.Joined.{rows_of}
 use Rattle.ti_trace.specs.Laws.{IsPlainTrace, is_plain}
 use Rattle.ti_trace.specs.Lines.{dimmed, outcome_word, token_columns, token_line}
 use Rattle.ti_trace.specs.Told.{Totals, TracedToken}
@@ -130,6 +131,6 @@ of_footer t =
     join (join (join (join (join (join output written) ran) passed) height) depth) bound
 
 pub is_plain_trace : IsPlainTrace
-is_plain_trace capability parameters text (told, is, e) =
-    let whole = join (join (word header refl) (of_lines told.tokens)) (of_footer told.totals) in
+is_plain_trace capability parameters rows text (told, is, e) =
+    let whole = join (join (word header refl) (of_lines (rows_of rows told.tokens))) (of_footer told.totals) in
     subst (λ (l : List ℕ). list_all is_plain l ≡ true) (sym e) whole.is

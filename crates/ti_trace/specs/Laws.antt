@@ -2,20 +2,20 @@
 use Rattle.std.specs.Prelude.{◌≡◌, ◌==◌, ◌||◌, ℕ, Bool, true, List, codes}
 use Rattle.std.specs.List.{list_all}
 use Rattle.ti_base.specs.Letters.{letter}
-use Rattle.ti_escape.specs.declared.color.Color.{Color}
 use Rattle.ti_escape.specs.declared.color.Color.TheVariants.{Never}
-use Rattle.ti_escape.specs.declared.form.Form.{Form}
 use Rattle.ti_escape.specs.declared.form.Form.TheVariants.{Notation}
 use Rattle.ti_escape.specs.Laws.{is_printable}
 use Rattle.ti_expand.specs.declared.values.Value.{Value}
+use Rattle.ti_trace.specs.declared.options.TraceOptions.{TraceOptions}
+use Rattle.ti_trace.specs.declared.options.TraceRows.{TraceRows}
 use Rattle.ti_trace.specs.Objects.{IsTraceJson}
 use Rattle.ti_trace.specs.Trace.{IsTrace}
 
 -- a capability has at most one trace over given parameters
 abbrev pub IsOneTrace : Type 0
-IsOneTrace = (capability : List ℕ) (parameters : List Value) (form : Form) (color : Color) (one other : List ℕ)
-    → IsTrace capability parameters form color one
-    → IsTrace capability parameters form color other
+IsOneTrace = (capability : List ℕ) (parameters : List Value) (options : TraceOptions) (one other : List ℕ)
+    → IsTrace capability parameters options one
+    → IsTrace capability parameters options other
     → one ≡ other
 
 -- and at most one as JSON
@@ -29,5 +29,6 @@ is_plain char = is_printable char || (char == letter (codes "\t") || char == let
 
 -- in the notation and without color a trace has no other character
 abbrev pub IsPlainTrace : Type 0
-IsPlainTrace = (capability : List ℕ) (parameters : List Value) (text : List ℕ)
-    → IsTrace capability parameters Notation Never text → list_all is_plain text ≡ true
+IsPlainTrace = (capability : List ℕ) (parameters : List Value) (rows : TraceRows) (text : List ℕ)
+    → IsTrace capability parameters (record { form = Notation; color = Never; rows = rows }) text
+    → list_all is_plain text ≡ true

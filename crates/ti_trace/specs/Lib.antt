@@ -3,6 +3,7 @@ pub mod Columns
 pub mod Items
 pub mod Lines
 pub mod Footer
+pub mod Joined
 pub mod Trace
 pub mod Objects
 pub mod Laws

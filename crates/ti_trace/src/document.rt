@@ -94,7 +94,7 @@ fn document_of<A: Allocator + Copy>(
     printer.into_bytes()
 }
 
-/// What a capability does, token by token, as JSON: an array with an object for each token, and one with the totals, without
+/// Returns the effect of a capability, token by token, as JSON: an array with an object for each token, and one with the totals, without
 /// a space between tokens of JSON. Each variable starts as 0.
 ///
 /// The object of a token has its `place`, `run` (`ran` or `passed`), the `stack` after it, the bottom first, the spelling of the

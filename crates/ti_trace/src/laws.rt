@@ -2,7 +2,7 @@
 
 ghost use Rattle.ti_trace.specs.Laws.{IsOneTrace, IsOneTraceJson, IsPlainTrace};
 
-/// A capability has at most one trace over given parameters, in a given form and color.
+/// A capability has at most one trace over given parameters, with given options.
 pub fn one_trace()
     ensures { IsOneTrace }
 {}

@@ -1,9 +1,9 @@
-//! What a capability does, token by token, as lines of text: where the token starts, its spelling, whether it ran, the
+//! The effect of a capability, token by token, as lines of text: where the token starts, its spelling, whether it ran, the
 //! stack after it, and what it wrote; then the output and the counts.
 //!
 //! [`trace`] makes the whole text in memory, in time linear in the capability and in the text. Of a text on the stack at
 //! most 16 bytes are shown, so that no capability makes the lines long but by what it writes. [`trace_json`] makes a document
-//! of JSON (RFC 8259) that tells the same.
+//! of JSON (RFC 8259) with the same content.
 #![tactic(auto)]
 
 mod columns;
@@ -13,9 +13,12 @@ mod footer;
 mod items;
 pub mod laws;
 mod object;
+mod options;
 mod row;
+mod taking;
 mod tracing;
 
 pub use document::trace_json;
 pub use fault::TraceFault;
+pub use options::{TraceOptions, TraceRows};
 pub use tracing::trace;

@@ -1,4 +1,4 @@
-//! The row of one token, and its line.
+//! A row, and its line.
 
 ghost use Rattle.std.specs.Prelude.{◌≡◌, ◌≤◌, ◌++◌, codes, length, OnOk};
 ghost use Rattle.ti_escape.specs.Notation.{notation};
@@ -9,8 +9,9 @@ ghost use Rattle.ti_trace.specs.inner.Rows.{row_token, token_taken};
 
 use crate::columns::{end_column, push_number};
 use crate::items::push_items;
+use crate::options::TraceOptions;
 use std::alloc::{AllocError, Allocator};
-use ti_escape::{Color, Form, Style, push_closing, push_notation, push_opening, push_shown};
+use ti_escape::{Form, Style, push_closing, push_notation, push_opening, push_shown};
 use ti_expand::{Outcome, Steps, Value};
 
 const PLACE_WIDTH: usize = 5;
@@ -19,7 +20,7 @@ const TOKEN_WIDTH: usize = 15;
 
 const STACK_WIDTH: usize = 23;
 
-/// What is said of a token.
+/// A token, or a run of bytes that stand for themselves, with its effect.
 #[derive(Clone, Copy)]
 pub struct Row<'r, 'a> {
     /// Where it starts.
@@ -31,7 +32,7 @@ pub struct Row<'r, 'a> {
     pub wrote: &'r [u8],
 }
 
-/// The row of the token that was just taken. It starts at the place, and so many bytes were written before it.
+/// The row of the tokens that were just taken. It starts at the place, and so many bytes were written before it.
 pub fn row_taken<'r, 'a>(
     bytes: &'r [u8],
     steps: &'r Steps<'_, '_, 'a>,
@@ -107,33 +108,31 @@ fn push_columns<A: Allocator>(
 /// The same, faint if the token was passed over.
 fn push_dimmed<A: Allocator>(
     out: &mut Vec<u8, A>,
-    form: Form,
-    color: Color,
+    options: &TraceOptions,
     row: &Row<'_, '_>,
 ) -> Result<(), AllocError>
-    ensures { OnOk result (out.new.items
-        ≡ out.old.items ++ dimmed color row.now.outcome (token_columns form (row_token row.now))) }
+    ensures { OnOk result (out.new.items ≡ out.old.items
+        ++ dimmed options.now.color row.now.outcome (token_columns options.now.form (row_token row.now))) }
 {
     match row.outcome {
-        Outcome::Ran => push_columns(out, form, row),
+        Outcome::Ran => push_columns(out, options.form, row),
         Outcome::PassedOver => {
-            push_opening(out, color, Style::Faint)?;
-            push_columns(out, form, row)?;
-            push_closing(out, color)
+            push_opening(out, options.color, Style::Faint)?;
+            push_columns(out, options.form, row)?;
+            push_closing(out, options.color)
         }
     }
 }
 
-/// Appends the line of a token.
+/// Appends the line of a row.
 pub fn push_row<A: Allocator>(
     out: &mut Vec<u8, A>,
-    form: Form,
-    color: Color,
+    options: &TraceOptions,
     row: &Row<'_, '_>,
 ) -> Result<(), AllocError>
     ensures { OnOk result (out.new.items
-        ≡ out.old.items ++ token_line form color (row_token row.now)) }
+        ≡ out.old.items ++ token_line options.now.form options.now.color (row_token row.now)) }
 {
-    push_dimmed(out, form, color, row)?;
+    push_dimmed(out, options, row)?;
     out.extend_from_slice(b"\n")
 }

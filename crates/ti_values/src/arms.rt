@@ -1,4 +1,4 @@
-//! What the tokens of a text send, whichever of its arms run.
+//! The output of the tokens of a text, whichever of its arms run.
 
 ghost use Rattle.std.specs.Prelude.{◌≡◌, ◌++◌, ◌∷◌, [], List, None, false, map, IfOk, OnOk};
 ghost use Rattle.ti_cap.specs.Capability.{IsWellFormed};
@@ -13,7 +13,7 @@ use ti_cap::{Capability, Conversion, Tape, Token};
 use ti_control::SentByte;
 use ti_expand::byte_of;
 
-/// What is written for a value that is not known.
+/// The byte that is written for a value that is not known.
 const UNKNOWN: u8 = b'0';
 
 /// The number of a constant.
@@ -26,7 +26,7 @@ fn constant_of(token: &Token) -> Option<i32>
     }
 }
 
-/// What `%c` writes after a constant, or after what is not known.
+/// Returns the byte that `%c` writes after a constant, or after a value that is not known.
 fn char_of(before: Option<i32>) -> SentByte
     ensures { arm_bytes before Token.Char ≡ result ∷ [] }
 {
@@ -75,7 +75,7 @@ fn push_arms<A: Allocator>(
     Ok(())
 }
 
-/// What all arms of a capability write, in the order of the text and without padding marks; a value that is not known is a `0`.
+/// Returns the output of all arms of a capability, in the order of the text and without padding marks; a value that is not known is a `0`.
 ///
 /// # Errors
 ///

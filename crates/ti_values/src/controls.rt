@@ -21,7 +21,7 @@ const MOST_SHOWN: usize = 16;
 /// A control function that may not stand in its capability.
 #[derive(Drop)]
 pub struct FoundFunction<A: Allocator> {
-    /// What the terminal does on it.
+    /// Its effect on the terminal.
     pub effect: Effect,
     /// The place of the token that writes its introducer.
     pub place: usize,
@@ -31,7 +31,7 @@ pub struct FoundFunction<A: Allocator> {
     pub label: &'static str,
     /// Its content, or the front of that.
     pub content: Vec<u8, A>,
-    /// What it is for.
+    /// Its purpose.
     pub purpose: &'static str,
 }
 
@@ -99,7 +99,7 @@ fn push_found<A: Allocator + Copy>(
     Ok(())
 }
 
-/// What stands after so many bytes.
+/// Returns the bytes after the first so many.
 fn past(sent: &[PlacedByte], count: usize) -> &[PlacedByte]
     ensures { result.now ≡ drop count sent.now }
 {

@@ -1,4 +1,4 @@
-//! What texts with parameters send for the values that they are given, and what is wrong with that.
+//! The bytes that texts with parameters send for some values, and findings on them.
 //!
 //! A [`Range`] is what a text such as `cup` is tried over, by the size of the screen. [`values_of`] lists it, and [`sent_for`]
 //! returns what the text sends for each of its values: its output without padding marks. On that list [`first_empty`] finds a

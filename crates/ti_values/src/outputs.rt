@@ -36,7 +36,7 @@ fn few<A: Allocator>(alloc: A) -> Result<Vec<Sample, A>, AllocError>
     Ok(list)
 }
 
-/// What a capability is tried over: its range, if it has one and is not too long.
+/// Returns the range over which a capability is tried, if it has one and is not too long.
 pub fn tried_over(capability: &Capability<'_>, range: Option<Range>) -> Option<Range>
     ensures exact { IsTriedOver capability.now range result }
 {

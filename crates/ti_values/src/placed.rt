@@ -1,4 +1,4 @@
-//! What a text sends for some parameters, each byte with where it comes from and the place of the token that writes it.
+//! The bytes that a text sends for some parameters, each with where it comes from and the place of the token that writes it.
 //!
 //! A text is run a token at a time, so that it is seen what each of its tokens writes.
 
@@ -114,7 +114,7 @@ fn push_all<A: Allocator>(
     Ok(())
 }
 
-/// What a capability sends for nine parameters, whose texts have one byte at most, with its padding marks. The variables are fresh.
+/// Returns the output of a capability for nine parameters, whose texts have one byte at most, with its padding marks. The variables are fresh.
 fn marked_for<A: Allocator + Copy>(
     alloc: A,
     capability: &Capability<'_>,
@@ -222,7 +222,7 @@ pub fn without_padding<A: Allocator + Copy>(
     Ok(list)
 }
 
-/// What a capability sends for nine parameters, without padding marks. The variables are fresh.
+/// Returns the output of a capability for nine parameters, without padding marks. The variables are fresh.
 ///
 /// # Errors
 ///
@@ -253,7 +253,7 @@ fn placed_bytes<A: Allocator>(alloc: A, text: &[u8]) -> Result<Vec<PlacedByte, A
     Ok(list)
 }
 
-/// What a text sends that is sent as it stands, without padding marks.
+/// Returns the bytes of a text that is sent as it stands, without padding marks.
 ///
 /// # Errors
 ///

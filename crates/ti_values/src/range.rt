@@ -7,7 +7,7 @@ ghost use Rattle.ti_values.specs.Ranges.{numbers, pairs, values};
 use crate::tried::Tried;
 use std::alloc::{AllocError, Allocator};
 
-/// What a text is tried over.
+/// The values over which a text is tried.
 #[derive(Clone, Copy, Debug, PartialEq, Eq)]
 pub enum Range {
     /// The numbers from the first up to below the second, such as colors.

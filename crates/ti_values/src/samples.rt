@@ -8,7 +8,7 @@ use crate::tried::Tried;
 use std::alloc::{AllocError, Allocator};
 use ti_expand::Value;
 
-/// What a text is given once. The parameters of a try are its own, and else all nine are alike.
+/// The parameters of a text once. The parameters of a try are its own, and else all nine are alike.
 #[derive(Clone, Copy, Debug, PartialEq, Eq)]
 pub enum Sample {
     /// The parameters of a try.

@@ -1,4 +1,4 @@
-//! What a text sends for each of some values.
+//! The output of a text for each of some values.
 
 ghost use Rattle.std.specs.Prelude.{◌≡◌, IfOk, IfSome};
 ghost use Rattle.ti_values.specs.Ranges.{parameters_of};
@@ -31,7 +31,7 @@ pub fn without_marks<A: Allocator + Copy>(alloc: A, bytes: &[u8]) -> Result<Vec<
     }
 }
 
-/// What a capability sends for a value: its output without padding marks, over fresh variables.
+/// Returns the output of a capability for a value, without padding marks, over fresh variables.
 ///
 /// # Errors
 ///
@@ -52,7 +52,7 @@ pub fn sent_by<A: Allocator + Copy>(
     without_marks(alloc, output.as_slice())
 }
 
-/// What a capability sends for each of some values, in their order: its output without padding marks. The variables are fresh
+/// Returns the output of a capability for each of some values, in their order, without padding marks. The variables are fresh
 /// for each.
 ///
 /// # Errors

@@ -120,7 +120,7 @@ pub(crate) fn width_len(bytes: &[u8]) -> usize
         .count()
 }
 
-/// What stands after a text, if the bytes start with it.
+/// Returns the bytes after a text, if they start with it.
 pub(crate) fn after_text<'a>(text: &[u8], bytes: &'a [u8]) -> Option<&'a [u8]>
     ensures { option_map (λ rest. rest.now) result ≡ after_text text.now bytes.now }
 {
@@ -130,7 +130,7 @@ pub(crate) fn after_text<'a>(text: &[u8], bytes: &'a [u8]) -> Option<&'a [u8]>
     Some(past(bytes, text.len()))
 }
 
-/// What stands after a parameter that is printed in decimal, in any width.
+/// Returns the bytes after a parameter that is printed in decimal, in any width.
 fn after_decimal<'a>(parameter: &[u8], bytes: &'a [u8]) -> Option<&'a [u8]>
     ensures { option_map (λ rest. rest.now) result ≡ after_decimal parameter.now bytes.now }
 {
@@ -179,7 +179,7 @@ fn escape_len(bytes: &[u8]) -> usize
     }
 }
 
-/// What stands after so many bytes.
+/// Returns the bytes after the first so many.
 pub fn past(bytes: &[u8], count: usize) -> &[u8]
     ensures { result.now ≡ drop count bytes.now }
 {

@@ -6,7 +6,7 @@ ghost use Rattle.ti_values.specs.Ranges.{number, parameters_of};
 
 use ti_expand::Value;
 
-/// What is given to a text in one try. Parameters that are not named are 0.
+/// The parameters of a text in one try. Those that are not named are 0.
 #[derive(Clone, Copy, Debug, PartialEq, Eq)]
 pub enum Tried {
     /// The first parameter.

@@ -15,7 +15,7 @@ pub enum Subject<'a> {
 }
 
 impl Subject<'_> {
-    /// What it is.
+    /// Returns its kind.
     pub fn kind(self) -> Kind
         ensures { result ≡ kind_of self.entry }
     {

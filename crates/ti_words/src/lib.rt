@@ -1,4 +1,4 @@
-//! What the bytes and words of a compiled terminfo entry mean (term(5)).
+//! The meaning of the bytes and words of a compiled terminfo entry (term(5)).
 //!
 //! A flag is one byte, a number is one word, a text is an offset or a mark. Each function here is exact both ways: a
 //! byte and its flag, a word and its number determine each other. None takes memory, and each takes a few instructions.
@@ -49,7 +49,7 @@ pub enum Text<'a> {
     Value(&'a [u8]),
 }
 
-/// What a capability is.
+/// The kind of a capability.
 #[derive(Clone, Copy, Debug, PartialEq, Eq)]
 pub enum Kind {
     Flag,

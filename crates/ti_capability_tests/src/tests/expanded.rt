@@ -36,7 +36,7 @@ pub fn write_in_slices(
     Ok(())
 }
 
-/// What a capability writes into a vector of its own.
+/// Returns the output of a capability in a vector of its own.
 pub fn into_vector(
     alloc: Global,
     bytes: &[u8],

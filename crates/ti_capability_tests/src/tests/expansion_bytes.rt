@@ -12,7 +12,7 @@ const WHOLE: &str = r"
 @SETAF | 200 => \E[38;5;200m 22 8 2
 ";
 
-/// What a capability writes, and the counts of its run.
+/// Returns the output of a capability, and the counts of its run.
 struct RunOf;
 
 impl Finds for RunOf {

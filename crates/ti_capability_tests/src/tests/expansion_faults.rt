@@ -1,4 +1,4 @@
-//! What an expansion refuses: by both calls alike, and without a change.
+//! The refusals of an expansion: by both calls alike, and without a change.
 
 use super::expanded::{fault_of_slices, fault_of_vector};
 use crate::tests::check_rows;

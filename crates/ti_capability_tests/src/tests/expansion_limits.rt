@@ -80,7 +80,7 @@ fn the_longest_text_needs_its_room(rt: HostRuntime) {
     assert_that!(rt; fault == Some(ExpandFault::OutTooSmall { need: 32767 }));
 }
 
-/// What the deep capability writes for the number 12.
+/// The output of the deep capability for the number 12.
 const DEEP_OUTPUT: &[u8] = b"12121212121212121212121212121212121212121212121212121212121212";
 
 /// Whether the deep capability is as deep as it may be, and writes this.

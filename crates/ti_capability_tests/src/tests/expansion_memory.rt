@@ -19,7 +19,7 @@ const BLOCKS: &str = r"
 33 => 48
 ";
 
-/// What a heap takes for a capability that is expanded in it, and writes this.
+/// Returns how much of a heap the expansion of a capability takes that writes this.
 fn taken_of(
     heap: &LocalHeap,
     bytes: &[u8],
@@ -48,7 +48,7 @@ fn taken(
     taken_of(&heap, bytes, first, output)
 }
 
-/// What so many bytes take as a capability, and as much as a text.
+/// The memory that so many bytes take as a capability, and as much as a text.
 struct TakenBy;
 
 impl Finds for TakenBy {

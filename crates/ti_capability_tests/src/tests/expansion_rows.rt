@@ -1,4 +1,4 @@
-//! What capabilities write, into slices of exactly the promised size and as a vector.
+//! The outputs of capabilities, into slices of exactly the promised size and as a vector.
 
 use super::expanded::write_in_both_ways;
 use crate::tests::check_rows;
@@ -19,7 +19,7 @@ fn longest_text(values: &[Value<'_>]) -> u16 {
     longest
 }
 
-/// What a capability writes, which is the same into exact slices and as a vector.
+/// Returns the output of a capability, which is the same into exact slices and as a vector.
 pub struct Written;
 
 impl Finds for Written {

@@ -7,7 +7,7 @@ use ti_fixtures::capabilities::nine;
 /// A conditional, whose otherwise part runs.
 const OTHERWISE: &[u8] = b"%?%p1%t1%e2%;";
 
-/// What became of each token with 0 for the parameter, and then the bytes taken, the values on the stack and what was
+/// The outcome of each token with 0 for the parameter, and then the bytes taken, the values on the stack and what was
 /// written.
 const STEPS: &[(Outcome, usize, usize, &[u8])] = &[
     (Outcome::Ran, 2, 0, b""),

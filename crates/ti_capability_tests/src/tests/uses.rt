@@ -1,4 +1,4 @@
-//! What a caller writes: for each library crate a first program, which its README shows.
+//! A caller's first program for each library crate, which its README shows.
 
 mod cap;
 mod expand;

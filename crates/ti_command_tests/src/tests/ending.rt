@@ -95,7 +95,7 @@ impl Finds for EndOf {
     }
 }
 
-/// What the run of a row writes, which ends well.
+/// Returns the output of the run of a row, which ends well.
 pub struct OutputOf;
 
 impl Finds for OutputOf {

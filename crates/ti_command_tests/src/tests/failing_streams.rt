@@ -11,6 +11,9 @@ const ROWS: &str = r"
 ti cap n:7 | %p1%d | 3 | - | - => 5 err input: failed\n
 ti cap n:7 | %p1%d | - | 1 | - => 5 err output: failed\n
 ti expand #1 | @SMALL | - | 1 | - => 5 err output: failed\n
+# the reason follows, if advice is wanted
+ti cap --source n:7 | %p1%d | - | 1 | - => 5 err output: failed\n  broken pipe\n
+ti cap --source n:7 | %p1%d | - | 1 | 1 => 5
 ti cap n:7 | % | - | - | 1 => 4
 ";
 

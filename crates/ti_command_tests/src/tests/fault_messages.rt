@@ -1,4 +1,4 @@
-//! What the faults of the calls are shown as.
+//! The messages on the faults of the calls.
 
 use ti_cap::{CapFault, CapRefused};
 use ti_entry::{EncodeFault, Fault, Refused};

@@ -1,4 +1,4 @@
-//! What the program writes is not flushed: when bytes go on is the writer's own affair.
+//! The program does not flush its output: when bytes go on is the writer's own affair.
 
 use super::ending::add_outcome;
 use crate::tests::check_rows;

@@ -18,11 +18,11 @@ ti cap --help | --source | --hex | --escape | [PARAM]... | n:NUMBER | s:TEXT | E
 ti trace --help | --source | --of <NAME> | --entry <FILE> | --escape | [PARAM]... | n:NUMBER | s:TEXT | Example => -
 ti expand --help | <NAME> | --rate <N> | 1000000 | --lines <N> | 65535 | --xon | Example => -
 ti check --help | status 1 | Example => -
-ti lint --help | Usage: ti lint [OPTIONS] [FILE]... | --all | --summary | Example => -
+ti lint --help | Usage: ti lint [OPTIONS] [FILE]... | ti lint --explain [WORD]... | --explain | --all | --summary | Example => -
 ti convert --help | canonical | --force | Example => -
 ti diff --help | Usage: ti diff [OPTIONS] [FILE] <OTHER> | --expand | standard input | status 1 | Example => -
 ti get --help | <NAME> | < ENTRY | --entry <FILE> | cursor_address | flag#N | as tput does | Example => -
-ti --version | ti 0.3.0\n => -
+ti --version | ti 0.3.0 (rattle-kit-13f)\n => -
 ";
 
 /// Adds the help that words ask for.
@@ -109,7 +109,7 @@ fn help_goes_where_results_go(rt: HostRuntime) {
     check_rows(&rt, ASKING, &Action);
 }
 
-/// What the help of the whole command has.
+/// The help of the whole command.
 const WHOLE: &str = r"
 ti --help | Read, check, compare, expand and write compiled terminfo entries\n | cap | trace | show | check | expand | convert | get => -
 ";

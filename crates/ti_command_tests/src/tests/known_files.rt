@@ -33,7 +33,7 @@ impl Store for SameFiles<'_> {
     }
 }
 
-/// What is read of a file.
+/// The contents of a file.
 fn contents_of<A: Allocator>(alloc: A, store: &SameFiles<'_>, name: &str) -> io::Result<Vec<u8, A>>
     ensures { IfOk result (λ v. AreContents (Some store.now.bytes.now) v.items) }
 {

@@ -21,13 +21,13 @@ ti cap s:-x n:-5 s: s:\303\251^A => Capability(CapabilityAction { parameters: Pa
 ti cap s: s:\303\251^A => Capability(CapabilityAction { parameters: ParameterValues { values: [Text([]), Text([195, 169, 1]), Num(0), Num(0), Num(0), Num(0), Num(0), Num(0), Num(0)] }, result: Cap(Raw) })
 ti cap -- s:--hex n:-5 => Capability(CapabilityAction { parameters: ParameterValues { values: [Text([45, 45, 104, 101, 120]), Num(-5), Num(0), Num(0), Num(0), Num(0), Num(0), Num(0), Num(0)] }, result: Cap(Raw) })
 ti cap n:7 --source => Source(CapabilityAction { parameters: ParameterValues { values: [Num(7), Num(0), Num(0), Num(0), Num(0), Num(0), Num(0), Num(0), Num(0)] }, result: Cap(Raw) })
-ti trace --source -e => Source(CapabilityAction { parameters: ParameterValues { values: [Num(0), Num(0), Num(0), Num(0), Num(0), Num(0), Num(0), Num(0), Num(0)] }, result: Trace(Lines(Notation, Never)) })
-ti trace n:7 => Capability(CapabilityAction { parameters: ParameterValues { values: [Num(7), Num(0), Num(0), Num(0), Num(0), Num(0), Num(0), Num(0), Num(0)] }, result: Trace(Lines(Hex, Never)) })
-ti trace n:4 --escape s:-x => Capability(CapabilityAction { parameters: ParameterValues { values: [Num(4), Text([45, 120]), Num(0), Num(0), Num(0), Num(0), Num(0), Num(0), Num(0)] }, result: Trace(Lines(Notation, Never)) })
-ti trace --of cup -e => Entry(Trace(TraceOf { name: "cup", given: None, form: Lines(Notation, Never) }))
-ti trace 4 --of=cursor_address --entry - => Entry(Trace(TraceOf { name: "cursor_address", given: Some(Given { params: [Either { number: 4, text: [52] }, Value(Num(0)), Value(Num(0)), Value(Num(0)), Value(Num(0)), Value(Num(0)), Value(Num(0)), Value(Num(0)), Value(Num(0))] }), form: Lines(Hex, Never) }))
+ti trace --source -e => Source(CapabilityAction { parameters: ParameterValues { values: [Num(0), Num(0), Num(0), Num(0), Num(0), Num(0), Num(0), Num(0), Num(0)] }, result: Trace(Lines(TraceOptions { form: Notation, color: Never, rows: Each })) })
+ti trace n:7 => Capability(CapabilityAction { parameters: ParameterValues { values: [Num(7), Num(0), Num(0), Num(0), Num(0), Num(0), Num(0), Num(0), Num(0)] }, result: Trace(Lines(TraceOptions { form: Hex, color: Never, rows: Each })) })
+ti trace n:4 --escape s:-x => Capability(CapabilityAction { parameters: ParameterValues { values: [Num(4), Text([45, 120]), Num(0), Num(0), Num(0), Num(0), Num(0), Num(0), Num(0)] }, result: Trace(Lines(TraceOptions { form: Notation, color: Never, rows: Each })) })
+ti trace --of cup -e => Entry(Trace(TraceOf { name: "cup", given: None, form: Lines(TraceOptions { form: Notation, color: Never, rows: Each }) }))
+ti trace 4 --of=cursor_address --entry - => Entry(Trace(TraceOf { name: "cursor_address", given: Some(Given { params: [Either { number: 4, text: [52] }, Value(Num(0)), Value(Num(0)), Value(Num(0)), Value(Num(0)), Value(Num(0)), Value(Num(0)), Value(Num(0)), Value(Num(0))] }), form: Lines(TraceOptions { form: Hex, color: Never, rows: Each }) }))
 ti trace --json --of=cup --color always => Entry(Trace(TraceOf { name: "cup", given: None, form: Json }))
-ti trace --color=always => Capability(CapabilityAction { parameters: ParameterValues { values: [Num(0), Num(0), Num(0), Num(0), Num(0), Num(0), Num(0), Num(0), Num(0)] }, result: Trace(Lines(Hex, Always)) })
+ti trace --color=always => Capability(CapabilityAction { parameters: ParameterValues { values: [Num(0), Num(0), Num(0), Num(0), Num(0), Num(0), Num(0), Num(0), Num(0)] }, result: Trace(Lines(TraceOptions { form: Hex, color: Always, rows: Each })) })
 ti lint --all => Entry(Lint(LintOptions { level: All, untrusted: false }, Never))
 ti lint --json => Entry(Json(Findings(LintOptions { level: Errors, untrusted: false })))
 ti lint --untrusted => Entry(Lint(LintOptions { level: Errors, untrusted: true }, Never))
@@ -72,6 +72,7 @@ ti show --json --escape => JsonForm
 ti check --json -e => JsonForm
 ti show --all-names --json x => JsonForm
 ti trace --json --escape x => JsonForm
+ti lint --json --explain layout => JsonExplained
 ti trace --color=red x => ColorWord
 ti lint --color Always => ColorWord
 ti diff --color= => ColorWord
@@ -91,7 +92,7 @@ ti trace --of setaf red => NoNumber
 ti trace --of setaf --json --escape red => JsonForm
 ";
 
-/// What words request. No file is named but by a difference.
+/// Returns the request of some words. No file is named but by a difference.
 struct Requests;
 
 impl Finds for Requests {
@@ -125,6 +126,30 @@ fn lines_have_faults(rt: HostRuntime) {
     check_rows(&rt, FAULTY, &FaultAt(Destination::File));
 }
 
+/// Words that ask to explain findings, and the words of these.
+const EXPLAINED: &str = r#"
+ti lint --explain => []
+ti lint --explain layout %i-late => ["layout", "%i-late"]
+ti lint --all - --explain => ["-"]
+"#;
+
+/// The words of the findings that are to be explained.
+struct Explained;
+
+impl Finds for Explained {
+    fn find(&self, given: &Given<'_, '_>, found: &mut Vec<u8>) -> Result<(), Unfound> {
+        match read_line(*found.allocator(), Destination::File, given.words) {
+            Err(NoRequest::Explanation(words)) => show_debug(found, &words),
+            _ => Err(Unfound),
+        }
+    }
+}
+
+#[test]
+fn words_ask_for_explanations(rt: HostRuntime) {
+    check_rows(&rt, EXPLAINED, &Explained);
+}
+
 /// Words, and what they ask for at a terminal that has color.
 const AT_A_TERMINAL: &str = r#"
 # Names go to a terminal in the notation alone.
@@ -133,6 +158,9 @@ ti check => Entry(Check(All, Naming { table: Common, form: Notation }))
 ti diff a b => Difference(Pair { file: "a", other: "b", likeness: Bytes, form: Headed(Always) })
 ti diff --color never a b => Difference(Pair { file: "a", other: "b", likeness: Bytes, form: Headed(Never) })
 ti diff --json a b => Difference(Pair { file: "a", other: "b", likeness: Bytes, form: Json })
+# Runs of bytes of a trace are joined.
+ti trace --of cup -e => Entry(Trace(TraceOf { name: "cup", given: None, form: Lines(TraceOptions { form: Notation, color: Always, rows: Joined }) }))
+ti trace --json --of cup => Entry(Trace(TraceOf { name: "cup", given: None, form: Json }))
 # An entry goes to a terminal by force alone.
 ti convert --force --wide => Entry(Convert(Some(Wide)))
 ti convert --wide --force => Entry(Convert(Some(Wide)))
@@ -142,7 +170,7 @@ ti lint --color auto => Entry(Lint(LintOptions { level: Errors, untrusted: false
 ti lint --color=never => Entry(Lint(LintOptions { level: Errors, untrusted: false }, Never))
 "#;
 
-/// What words ask for at a terminal.
+/// Returns the request of some words at a terminal.
 struct RequestedAtTerminal;
 
 impl Finds for RequestedAtTerminal {

@@ -12,6 +12,12 @@ const REFUSED: &str = r"
  | subcommand => -
 ti | subcommand => -
 ti zap | 'zap' => -
+# a word of other programs, not one that is spelled alike
+ti list | 'list'\n\n  tip: a similar subcommand exists: 'show'\n\nUsage: => -
+ti list \E | 'list'\n\n  tip: a similar subcommand exists: 'show'\n\nUsage: => -
+ti info x | 'info'\n\n  tip: a similar subcommand exists: 'show'\n\nUsage: => -
+ti explain | 'explain'\n\n  tip: some similar subcommands exist: 'trace', 'lint --explain'\n\nUsage: => -
+ti lnt | 'lint' => -
 ti cap --entry x | '--entry' => -
 ti cap --xon | '--xon' => -
 ti cap -5 | '-5' => -

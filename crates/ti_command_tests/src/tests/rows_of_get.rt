@@ -42,8 +42,13 @@ ti get smulx | @EXTENDED_BY_TIC => 4 err get: smulx: no such capability; nearest
 ti get E33 | @EXTENDED => 4 err get: E33: no such capability; nearest: E3\n
 # The extended entry with an own flag whose name is no UTF-8.
 ti get AXX | ^Z^A^B\000^A\000^A\000^B\000^B\000t\000^A\000P\000\377\377\000\000^G\000^A\000\000\000^A\000^C\000^K\000^A\000\000\000\000\000^C\000\E[3J\000A\377\000E3\000 => 4 err get: AXX: no such capability\n
-# a label has the kind in front
-ti get #1 | @SMALL => 4 err get: #1: no such capability\n
+# without the kind a label is that of a text
+ti get #1 | @SMALL => 0 out ^G
+ti get #00001 --escape | @SMALL => 0 out \^G\n
+ti get #413 | @SMALL => 4 err get: #413: absent\n
+ti get #000001 | @SMALL => 4 err get: #000001: no such capability\n
+ti get # | @SMALL => 4 err get: #: no such capability\n
+ti get cup#10 | @SMALL => 4 err get: cup#10: no such capability\n
 ti get text#000001 | @SMALL => 4 err get: text#000001: no such capability\n
 ti get 1234567890123456789012345678901234567890 | @SMALL => 4 err get: 1234567890123456789012345678901234567890: no such capability\n
 ti get 12345678901234567890123456789012345678901 | @SMALL => 4 err get: ..: no such capability\n
@@ -131,12 +136,21 @@ ti trace --of=setaf red | ^Z => 2 err parameter 1 of setaf: no 32-bit number\n
 # a mark makes each word fit
 ti get setaf s:red | @SMALL => 4 err get: setaf: absent\n
 ti get cup n:1 s: | @SMALL => 4 err get: cup: absent\n
-# terminfo(5) gives no count to these, to a name of the entry's own, and to a label
+# a label means the capability at its index
+ti get #10 4 9 1 | ^Z => 2 err parameters: cup takes 2, not 3\n
+ti get text#10 4 9 entry | ^Z => 2 err parameters: cup takes 2, not 3; an entry is named by --entry FILE\n
+ti get #00010 4 red | ^Z => 2 err parameter 2 of cup: no 32-bit number\n
+ti get text#115 1 x | @SMALL => 4 err get: text#115: absent\n
+ti get #115 x x | ^Z => 2 err parameter 1 of pfkey: no 32-bit number\n
+ti get #115 1 x | @SMALL => 4 err get: #115: absent\n
+ti trace --of=#10 1 2 3 | ^Z => 2 err parameters: cup takes 2, not 3\n
+# terminfo(5) gives no count to these, to a name of the entry's own, and to a label of another kind or of no text
 ti get bel 1 red 99999999999 | @SMALL => 0 out ^G
 ti get am red | @SMALL => 1
 ti get cols red | @SMALL => 0 out 80\n
 ti get E3 red 99999999999 | @EXTENDED => 0 out \E[3J
-ti get text#10 1 2 3 | @SMALL => 4 err get: text#10: absent\n
+ti get number#0 red | @SMALL => 0 out 80\n
+ti get #414 red | @SMALL => 4 err get: #414: absent\n
 ";
 
 #[test]

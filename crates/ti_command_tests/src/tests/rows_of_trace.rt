@@ -49,6 +49,7 @@ const OF_AN_ENTRY_OUTPUTS: &str = r"
 ti trace --of cbt 7 | @COLUMN => @COLUMN_OF_7
 ti trace n:7 --of=back_tab | @COLUMN => @COLUMN_OF_7
 ti trace --of text#0 --entry - -- 7 | @COLUMN => @COLUMN_OF_7
+ti trace --of #0 7 | @COLUMN => @COLUMN_OF_7
 ";
 
 #[test]

@@ -36,11 +36,11 @@ ti diff cut small | file => 3 err cut: entry: Truncated at 5\n
 ti diff small cut | file => 3 err cut: entry: Truncated at 5\n
 ti diff small none\E | file => 5 err none\\E: entity not found\n
 ti diff none\E cut | file => 5 err none\\E: entity not found\n
-ti diff | file => 2 err diff: one file or two\n
+ti diff | file => 2 err diff: one file or two; usage: ti diff [OPTIONS] [FILE] <OTHER>\n
 ti diff - small | file => 1 out - text bel \\E[?%[;0123456789]c\n+ text bel \^G\n
 ti diff - | file => 2 err diff: standard input cannot be compared with itself\n
 ti diff - - | file => 2 err diff: standard input cannot be compared with itself\n
-ti diff a b c | file => 2 err diff: one file or two\n
+ti diff a b c | file => 2 err diff: one file or two; usage: ti diff [OPTIONS] [FILE] <OTHER>\n
 "#;
 
 #[test]

@@ -18,6 +18,20 @@ ti cap --source --escape | \n => 0 out \n
 ti trace --source --escape | \\E\n => 0 out place^Itoken          ^Irun    ^Istack                  ^Iwrote\n    0^I\\E             ^Iran    ^I-                      ^I\\E\noutput: \\E\nwritten: 1\nran: 1\npassed: 0\nheight: 0\ndepth: 0\nbound: 1\n
 ";
 
+/// Notations with the name of a string before them, and such as have none.
+const PASTED: &str = r"
+ti cap --source n:4 n:9 | cup=\\E[%i%p1%d;%p2%dH, => 0 out cup=\E[5;10H, err   this starts with cup=: give the string alone, without a comma at its end\n
+ti cap --source n:4 | cursor_address=%p1%d\n => 0 out cursor_address=4 err   this starts with cursor_address=: give the string alone, without a comma at its end\n
+ti cap --source | bel=%y => 4 err capability: UnknownEscape at 4\n  bel=%y\n      \^\n  this is no escape of terminfo(5); %d prints a number, %% a percent sign\n  this starts with bel=: give the string alone, without a comma at its end\n
+# no name, that of a number, one that no table has, and bytes as they stand
+ti cap --source | a=b => 0 out a=b
+ti cap --source | =b => 0 out =b
+ti cap --source | cols=80 => 0 out cols=80
+ti cap --source | \scup=b => 0 out \scup=b
+ti cap --source | cup => 0 out cup
+ti cap n:4 | cup=%p1%d => 0 out cup=4
+";
+
 /// Inputs that are no notation, or the notation of no capability.
 const REFUSED: &str = r"
 ti cap --source | abc\\ => 4 err source: CutShort at 3\n  nothing follows the last character; write \\\\ for a backslash, \\\^ for a caret\n
@@ -44,6 +58,11 @@ ti trace --source | %?%p1\n => 4 err capability: NoThen at 5\n  %?%p1\n       \^
 #[test]
 fn notations_are_expanded_as_their_texts(rt: HostRuntime) {
     check_rows(&rt, EXPANDED, &EndOf);
+}
+
+#[test]
+fn a_name_before_a_notation_is_reported(rt: HostRuntime) {
+    check_rows(&rt, PASTED, &EndOf);
 }
 
 #[test]

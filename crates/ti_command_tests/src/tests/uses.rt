@@ -1,4 +1,4 @@
-//! What a caller of the command line and of the program writes, as their READMEs show it.
+//! A caller's first programs for the command line and the program, as their READMEs show them.
 
 mod line;
 mod tool;

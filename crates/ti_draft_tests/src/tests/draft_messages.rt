@@ -1,4 +1,4 @@
-//! What the faults of drafts are shown as.
+//! The messages on the faults of drafts.
 
 use crate::tests::check_rows;
 use ti_entry::EncodeFault;

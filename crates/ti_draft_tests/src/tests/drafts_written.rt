@@ -12,7 +12,7 @@ pub fn entry_of<'a>(bytes: &'a [u8]) -> Result<Entry<'a>, Unfound> {
     Ok(read(bytes)?)
 }
 
-/// What a draft is written as, of the length that is known before, or why it is not.
+/// Returns the bytes of a draft, of the length that is known before, or its fault.
 pub fn written<A: Allocator>(alloc: Global, draft: &Draft<'_, A>) -> Result<Vec<u8>, Unfound> {
     match encode(alloc, draft) {
         Ok(bytes) if encoded_len(draft) == bytes.len() as u64 => Ok(bytes),
@@ -69,7 +69,7 @@ fn written_with<'a>(
     written(alloc, &*draft)
 }
 
-/// What a draft with these names and items is written as.
+/// Returns the bytes of a draft with these names and items.
 fn written_as(
     alloc: Global,
     width: Width,
@@ -175,7 +175,7 @@ const AGAIN: &str = r"
 @WIDE_EXTENDED => @WIDE_EXTENDED
 ";
 
-/// What a draft is written as, if there is one.
+/// Returns the bytes of a draft, if there is one.
 fn written_if_given(
     alloc: Global,
     draft: &Result<Draft<'_>, AllocError>,
@@ -186,12 +186,12 @@ fn written_if_given(
     }
 }
 
-/// What the draft of an entry is written as.
+/// Returns the bytes of the draft of an entry.
 fn written_again(alloc: Global, bytes: &[u8]) -> Result<Vec<u8>, Unfound> {
     written_if_given(alloc, &entry_of(bytes)?.draft(alloc))
 }
 
-/// What the draft of the entry of a row is written as.
+/// The bytes of the draft of the entry of a row.
 struct WrittenAgain;
 
 impl Finds for WrittenAgain {

@@ -60,7 +60,7 @@ fn is_drafted_and_written(alloc: Global) -> bool {
     }
 }
 
-/// What tic wrote is canonical, so it is written again as it was.
+/// An entry by tic is canonical, so it is written again as it was.
 #[test]
 fn a_large_entry_is_drafted_and_written(rt: HostRuntime) {
     assert_that!(rt; is_drafted_and_written(rt.alloc()));

@@ -1,4 +1,4 @@
-//! What a caller writes: for the crates of drafts and of JSON a first program, which their READMEs show.
+//! A caller's first programs for the crates of drafts and of JSON, which their READMEs show.
 
 mod draft;
 mod json;

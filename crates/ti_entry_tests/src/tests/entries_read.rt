@@ -25,7 +25,7 @@ const SAID: &str = r"
 @ODD => (Legacy, [116], [Yes, No], [Value(80), Absent], [Absent, Value([7, 7]), Absent])([(None, No)], [(None, Absent)], [(None, Absent)])
 ";
 
-/// What the entry of a row says.
+/// The values of the entry of a row.
 pub struct SaidIn;
 
 impl Finds for SaidIn {
@@ -120,7 +120,7 @@ fn is_fed_at(reader: &mut EntryReader, place: usize, byte: u8) -> bool {
         && reader.kept() == place.saturating_add(1)
 }
 
-/// What an entry says that is fed byte by byte.
+/// The values of an entry that is fed byte by byte.
 struct SaidByteByByte;
 
 impl Finds for SaidByteByByte {

@@ -1,4 +1,4 @@
-//! What the faults of entries are shown as.
+//! The messages on the faults of entries.
 
 use crate::tests::check_rows;
 use ti_entry::{Fault, ReadStop, Refused};
@@ -40,7 +40,7 @@ const SHOWN: &str = r"
 13 => Trailing, Trailing, Trailing at 20, Trailing at 20
 ";
 
-/// What is shown of the fault at a place.
+/// The message on the fault at a place.
 struct ShownAt;
 
 impl Finds for ShownAt {

@@ -63,7 +63,7 @@ fn is_going_on(reader: &mut EntryReader, source: &mut Source<'_>) -> bool {
     }
 }
 
-/// What reading a source of a row comes to, if a second reading goes on.
+/// The result of reading a source of a row, if a second reading goes on.
 struct GoingOnIn;
 
 impl Finds for GoingOnIn {
@@ -91,7 +91,7 @@ fn a_reader_goes_on_after_a_source_that_failed(rt: HostRuntime) {
     check_rows(&rt, STOPPED, &GoingOnIn);
 }
 
-/// What reading the bytes of a row one by one comes to.
+/// The result of reading the bytes of a row one by one.
 struct OneByOneIn;
 
 impl Finds for OneByOneIn {

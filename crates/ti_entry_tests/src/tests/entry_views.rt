@@ -1,4 +1,4 @@
-//! What entries say, as text, and whether two entries say the same.
+//! Entries as text, and whether two entries have the same values.
 
 use std::alloc::{AllocError, Global};
 use ti_entry::{Entry, EntryReader, Extended, Refused, read};

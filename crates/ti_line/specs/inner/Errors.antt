@@ -11,4 +11,5 @@ abbrev pub TellsOf : ErrorKind → NoRequest → Type 0
 TellsOf k (no_request.Help message) = is_help k ≡ true
 TellsOf k (no_request.Refused message) = (is_help k ≡ false) × (k ≢ kind.OutOfMemory)
 TellsOf k (no_request.Fault why) = ⊥
+TellsOf k (no_request.Explanation words) = ⊥
 TellsOf k no_request.Memory = Unit {0}

@@ -160,7 +160,7 @@ fn show_misplaced(
     }
 }
 
-/// What may not stand in a capability.
+/// The function that may not stand in a capability.
 struct InCapability;
 
 impl Finds for InCapability {

@@ -30,7 +30,7 @@ fn padding_in(given: &Given<'_, '_>) -> Result<Padding, Unfound> {
     padding_of(rate.parse::<u32>()?, lines.parse::<u32>()?, xon == "true")
 }
 
-/// A text padded in a vector, which has the length that is told before.
+/// A text padded in a vector, which has the length that was computed before.
 struct InVector;
 
 impl Finds for InVector {

@@ -66,7 +66,7 @@ const BLOCKS: &str = r"
 abc$<1025>def | 1000 1 false | - | - | - => Ok(()) 1031 5 0
 ";
 
-/// What comes of a padded text that is written.
+/// The result of writing a padded text.
 struct WrittenTo;
 
 impl Finds for WrittenTo {
@@ -121,7 +121,7 @@ abc | - | - | - | 1001 => Err(0)\s
 abc | - | 0 | - | - => Err(0)\s
 ";
 
-/// What comes of bytes that are written.
+/// The result of writing bytes.
 struct OutTo;
 
 impl Finds for OutTo {

@@ -9,7 +9,14 @@ use ti_expand::Value;
 use ti_fixtures::capabilities::{nine, values_of};
 use ti_fixtures::traces::{COLUMN, COLUMN_OF_7};
 use ti_fixtures::{Finds, Given, Tries, Unfound, are_shown, show, tally_of};
-use ti_trace::{TraceFault, trace, trace_json};
+use ti_trace::{TraceFault, TraceOptions, TraceRows, trace, trace_json};
+
+/// A row for each token, with bytes in hex and without color.
+const PLAIN: TraceOptions = TraceOptions {
+    form: Form::Hex,
+    color: Color::Never,
+    rows: TraceRows::Each,
+};
 
 /// Capabilities with their first parameters, and their traces.
 const TRACED: &str = r"
@@ -22,31 +29,45 @@ const TRACED_IN_HEX: &str = r"
 @CHOICE | 3 => @CHOICE_OF_3
 ";
 
-/// The trace of a capability in a form.
-struct TraceIn(Form);
+/// The same with runs of bytes joined.
+const JOINED: &str = r"
+\E[%p1%dG | 7 => place^Itoken          ^Irun    ^Istack                  ^Iwrote\n    0^I\\E[            ^Iran    ^I-                      ^I1b5b\n    2^I%p1            ^Iran    ^I7                      ^I-\n    5^I%d             ^Iran    ^I-                      ^I37\n    7^IG              ^Iran    ^I-                      ^I47\noutput: 1b5b3747\nwritten: 4\nran: 5\npassed: 0\nheight: 1\ndepth: 1\nbound: 14\n
+a%%bc | 0 => place^Itoken          ^Irun    ^Istack                  ^Iwrote\n    0^Ia              ^Iran    ^I-                      ^I61\n    1^I%%             ^Iran    ^I-                      ^I25\n    3^Ibc             ^Iran    ^I-                      ^I6263\noutput: 61256263\nwritten: 4\nran: 4\npassed: 0\nheight: 0\ndepth: 0\nbound: 4\n
+";
 
-impl Finds for TraceIn {
+/// The trace of a capability with options.
+#[derive(Drop)]
+struct TraceWith(TraceOptions);
+
+impl Finds for TraceWith {
     fn find(&self, given: &Given<'_, '_>, found: &mut Vec<u8>) -> Result<(), Unfound> {
         let values = values_of(from_utf8(given.second)?);
-        let made = trace(
-            *found.allocator(),
-            given.bytes,
-            &values,
-            self.0,
-            Color::Never,
-        )?;
+        let made = trace(*found.allocator(), given.bytes, &values, &self.0)?;
         Ok(found.extend_from_slice(made.as_slice())?)
     }
 }
 
 #[test]
 fn capabilities_are_traced(rt: HostRuntime) {
-    check_rows(&rt, TRACED, &TraceIn(Form::Notation));
+    let escaped = TraceOptions {
+        form: Form::Notation,
+        ..PLAIN
+    };
+    check_rows(&rt, TRACED, &TraceWith(escaped));
 }
 
 #[test]
 fn a_choice_is_traced(rt: HostRuntime) {
-    check_rows(&rt, TRACED_IN_HEX, &TraceIn(Form::Hex));
+    check_rows(&rt, TRACED_IN_HEX, &TraceWith(PLAIN));
+}
+
+#[test]
+fn runs_of_bytes_are_joined(rt: HostRuntime) {
+    let joined = TraceOptions {
+        rows: TraceRows::Joined,
+        ..PLAIN
+    };
+    check_rows(&rt, JOINED, &TraceWith(joined));
 }
 
 /// A capability with its first parameters, and its trace for programs.
@@ -76,8 +97,15 @@ struct Faint;
 impl Finds for Faint {
     fn find(&self, given: &Given<'_, '_>, found: &mut Vec<u8>) -> Result<(), Unfound> {
         let (alloc, values) = (*found.allocator(), values_of(given.fields()[1]));
-        let plain = trace(alloc, given.bytes, &values, Form::Hex, Color::Never)?.len();
-        let faint = trace(alloc, given.bytes, &values, Form::Hex, Color::Always)?.len();
+        let plain = trace(alloc, given.bytes, &values, &PLAIN)?.len();
+        let color = Color::Always;
+        let faint = trace(
+            alloc,
+            given.bytes,
+            &values,
+            &TraceOptions { color, ..PLAIN },
+        )?
+        .len();
         show(found, &faint.saturating_sub(plain))
     }
 }
@@ -95,7 +123,7 @@ const CUT: CapRefused = CapRefused {
 
 #[test]
 fn bytes_that_are_no_capability_have_no_trace(rt: HostRuntime) {
-    let fault = trace(rt.alloc(), b"a%p", &nine(&[]), Form::Hex, Color::Never).err();
+    let fault = trace(rt.alloc(), b"a%p", &nine(&[]), &PLAIN).err();
     assert_that!(rt; fault == Some(TraceFault::Cap(CUT)));
 }
 
@@ -103,7 +131,7 @@ fn bytes_that_are_no_capability_have_no_trace(rt: HostRuntime) {
 fn a_text_that_is_too_long_has_no_trace(rt: HostRuntime) {
     let long = [b'a'; 32768];
     let texts = nine(&[Value::Num(0), Value::Text(&long)]);
-    let fault = trace(rt.alloc(), b"a", &texts, Form::Hex, Color::Never).err();
+    let fault = trace(rt.alloc(), b"a", &texts, &PLAIN).err();
     assert_that!(rt; fault == Some(TraceFault::TextTooLong(2)));
 }
 
@@ -117,7 +145,7 @@ struct Traced;
 
 impl Tries for Traced {
     fn is_given(&self, heap: &LocalHeap) -> Result<bool, Unfound> {
-        let traced = trace(heap, COLUMN, &[Value::Num(7); 9], Form::Hex, Color::Never);
+        let traced = trace(heap, COLUMN, &[Value::Num(7); 9], &PLAIN);
         match &traced {
             Ok(text) if text.as_slice() == COLUMN_OF_7 => Ok(true),
             Err(TraceFault::Memory) => Ok(false),

@@ -1,4 +1,4 @@
-//! What `sgr` lacks, and numbers below 0 that are printed.
+//! Attributes that `sgr` lacks, and numbers below 0 that are printed.
 
 use crate::tests::check_rows;
 use std::alloc::Global;

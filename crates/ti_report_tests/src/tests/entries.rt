@@ -9,7 +9,7 @@ use ti_names::NameTable;
 use ti_report::{Color, Level, LintOptions, Trials, push_report};
 use ti_words::{Flag, Kind, Number, Text, Width};
 
-/// What the items say of a capability of terminfo(5).
+/// Returns the value of a capability of terminfo(5) in the items.
 fn said_of(items: &str, kind: Kind, index: usize) -> Option<Said<'_>> {
     for item in items.split(" | ") {
         let (name, said) = item_of(item);
@@ -159,7 +159,7 @@ pub fn lines_on(alloc: Global, look: Look, file: &[u8]) -> Result<Vec<u8>, Unfou
     Ok(lines)
 }
 
-/// What is looked for by default, and with `--all`.
+/// The options by default, and with `--all`.
 pub const ERRORS: LintOptions = LintOptions {
     level: Level::Errors,
     untrusted: false,
@@ -182,7 +182,7 @@ pub const MISTAKES: Look = Look {
     prefix: b"",
 };
 
-/// What the first word of a row asks for.
+/// Returns the options that the first word of a row names.
 fn options_of(words: &str) -> LintOptions {
     if words.starts_with("all") {
         ALL
@@ -193,7 +193,7 @@ fn options_of(words: &str) -> LintOptions {
     }
 }
 
-/// The look that the first field of a row asks for: `mistakes`, `all` or `untrusted`, and each `in file` or not.
+/// The options that the first field of a row names: `mistakes`, `all` or `untrusted`, and each `in file` or not.
 pub fn look_of(words: &str) -> Look {
     let is_named = words.ends_with("in file");
     Look {

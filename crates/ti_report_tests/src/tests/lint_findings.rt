@@ -1,4 +1,4 @@
-//! What is wrong with tokens of capabilities on some of their paths, or by their conditionals: rows worked by hand.
+//! Findings on tokens of capabilities on some of their paths, or by their conditionals: rows worked by hand.
 
 use crate::tests::check_rows;
 use TokenFinding::{
@@ -115,7 +115,7 @@ fn show_findings(found: &mut Vec<u8>, findings: &[PlacedFinding]) -> Result<(), 
     Ok(())
 }
 
-/// What is wrong with the capability of a row.
+/// The findings on the capability of a row.
 struct FindingsIn;
 
 impl Finds for FindingsIn {

@@ -1,4 +1,4 @@
-//! What terminfo(5) says of the texts, and what capabilities store and leave out.
+//! The classes of the texts in terminfo(5), and which capabilities store variables and leave out parameters.
 
 use crate::tests::check_rows;
 use ti_cap::{Capability, Token};
@@ -233,7 +233,7 @@ Xm => None
 - => None
 ";
 
-/// What the text of an own name is.
+/// The class of the text of an own name.
 struct OwnClassOf;
 
 impl Finds for OwnClassOf {

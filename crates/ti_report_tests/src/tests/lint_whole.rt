@@ -28,7 +28,7 @@ impl Finds for WholeLines {
     }
 }
 
-/// What an entry has of color, with its findings. All its other texts are cancelled.
+/// The colors of entries, with their findings. All their other texts are cancelled.
 const COLORS: &str = r"
 colors#8 | op=\E[m | setaf=\E[m | *@ => -
 colors#8 | oc=\E[m | setf=\E[m | *@ => -

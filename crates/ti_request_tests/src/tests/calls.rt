@@ -10,7 +10,7 @@ use ti_tool::ToolFault;
 
 /// A call with all that it is given but its memory and its streams.
 pub trait Calls {
-    /// What the call returns.
+    /// Returns the result of the call.
     fn call<A: Allocator + Copy>(
         &self,
         alloc: A,
@@ -53,7 +53,7 @@ pub fn is_written<C: Calls>(alloc: Global, call: &C, bytes: &[u8], outcome: &[u8
     added.is_ok() && found.as_slice() == outcome
 }
 
-/// What a call writes over the bytes of a row, or its fault.
+/// The output of a call over the bytes of a row, or its fault.
 #[derive(Clone, Copy)]
 pub struct WrittenBy<C>(pub C);
 

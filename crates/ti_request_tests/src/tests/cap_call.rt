@@ -31,7 +31,7 @@ impl Calls for Expanded<'_> {
     }
 }
 
-/// What a capability writes for the parameters of a row, as it stands or in hex.
+/// The output of a capability for the parameters of a row, raw or in hex.
 struct Written {
     hex: bool,
 }
@@ -63,7 +63,7 @@ fn capabilities_write_what_tput_prints(rt: HostRuntime) {
     check_rows(&rt, SGR, &PLAIN);
 }
 
-/// What `tput -T tmux cup 23 79` prints.
+/// The bytes that `tput -T tmux cup 23 79` prints.
 #[test]
 fn a_text_of_a_large_entry_is_expanded_by_itself(rt: HostRuntime) {
     check_rows(
@@ -148,7 +148,7 @@ impl Calls for Formed {
     }
 }
 
-/// What a capability writes in the form of a row.
+/// The output of a capability in the form of a row.
 struct InForm;
 
 impl Finds for InForm {

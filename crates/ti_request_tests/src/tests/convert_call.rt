@@ -76,7 +76,7 @@ const MOVED: &str = r"
 ^^^B^B\000^A\000^A\000^B\000^B\000t\000^A\000\376\377\377\377\377\377\000\000^G\000 | legacy => ^Z^A^B\000^A\000^A\000^B\000^B\000t\000^A\000\376\377\377\377\000\000^G\000
 ";
 
-/// What the entry of a row is converted to in a format, or the fault.
+/// The bytes of the entry of a row in a format, or the fault.
 struct ConvertedTo;
 
 impl Finds for ConvertedTo {

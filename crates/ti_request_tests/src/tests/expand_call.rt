@@ -51,7 +51,7 @@ const PADDED: &str = r"
 #0 | $<99999*> | 1000000 | 65535 | - => TooMuch 6553434465000
 ";
 
-/// What is found of an expansion: what is written, its reads and writes, or whether it is refused memory and then given it.
+/// An aspect of an expansion: its output, its reads and writes, or whether it is refused memory and then given it.
 #[derive(Clone, Copy)]
 enum Aspect {
     Output,
@@ -139,7 +139,7 @@ const NAMED: &str = r"
 @EXTENDED | E => NoSuchText
 ";
 
-/// What the text of an entry with a name is expanded to, or the fault.
+/// The expansion of the text of an entry with a name, or the fault.
 struct NamedText;
 
 impl Finds for NamedText {

@@ -26,7 +26,7 @@ impl Calls for CarriedOut<'_> {
     }
 }
 
-/// What the words of a row request of the uncommon entry, or the fault.
+/// The request of the words of a row on the uncommon entry, or the fault.
 struct Requested;
 
 impl Finds for Requested {

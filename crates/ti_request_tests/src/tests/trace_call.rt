@@ -10,7 +10,14 @@ use ti_fixtures::traces::{COLUMN, COLUMN_OF_7};
 use ti_fixtures::{Sink, Source, Tries, Unfound, only_if, tally_of};
 use ti_line::{Action, CapabilityAction, CapabilityResult, ParameterValues, TraceForm};
 use ti_tool::{ToolFault, carry_out};
-use ti_trace::trace;
+use ti_trace::{TraceOptions, TraceRows, trace};
+
+/// How traces are written.
+const OPTIONS: TraceOptions = TraceOptions {
+    form: Form::Hex,
+    color: Color::Never,
+    rows: TraceRows::Each,
+};
 
 const NUMBERS: [Value<'static>; 9] = [Value::Num(7); 9];
 
@@ -25,10 +32,9 @@ impl Calls for Traced<'_> {
         source: &mut Source<'_>,
         writer: &mut Sink,
     ) -> Result<(), ToolFault> {
-        let lines = TraceForm::Lines(Form::Hex, Color::Never);
         let action = Action::Capability(CapabilityAction {
             parameters: ParameterValues { values: *self.0 },
-            result: CapabilityResult::Trace(lines),
+            result: CapabilityResult::Trace(TraceForm::Lines(OPTIONS)),
         });
         carry_out(alloc, &action, source, writer).map(|_sound| ())
     }
@@ -63,7 +69,7 @@ impl Tries for Growing {
             Err(ToolFault::Memory) if writer.taken.is_empty() => false,
             _ => return Err(Unfound),
         };
-        let text = trace(heap, COLUMN, &NUMBERS, Form::Hex, Color::Never);
+        let text = trace(heap, COLUMN, &NUMBERS, &OPTIONS);
         only_if(text.is_ok() == is_given)?;
         Ok(is_given)
     }

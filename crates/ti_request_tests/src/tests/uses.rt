@@ -1,3 +1,3 @@
-//! What a caller of the listings writes, as their README shows it.
+//! A caller's first programs for the listings, as their README shows them.
 
 mod listing;

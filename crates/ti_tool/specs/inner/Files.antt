@@ -1,7 +1,7 @@
 -- How a file ends, and what is done with each.
 use Rattle.std.specs.Prelude.{◌≡◌, ◌≢◌, ◌<◌, ◌≤◌, ℕ, List, []}
 use Rattle.ti_tool.specs.FileRuns.{Job}
-use Rattle.ti_tool.specs.declared.files.Errand.{Errand}
+use Rattle.ti_tool.specs.declared.outcome.Errand.{Errand}
 
 -- without a fault there is no line, and with one no result
 abbrev pub IsResultOrLine : ℕ → List ℕ → List ℕ → Type 0

@@ -64,7 +64,7 @@ pub fn document_of<A: Allocator + Copy>(
     Ok(Answer { bytes, passed })
 }
 
-/// What a document is called in the object of its file.
+/// Returns the key of a document in the object of its file.
 fn key_of(document: Document) -> &'static str
     ensures { result.now ≡ the_key document }
 {

@@ -14,10 +14,9 @@ use crate::item_name::{Names, item_called};
 use std::alloc::Allocator;
 use ti_cap::Capability;
 use ti_entry::Entry;
-use ti_escape::{Color, Form};
 use ti_expand::Value;
 use ti_line::{Given, TraceForm, TraceOf};
-use ti_trace::{TraceFault, trace, trace_json};
+use ti_trace::{TraceFault, TraceOptions, trace, trace_json};
 use ti_words::{Item, Text};
 
 /// The parameters if no word gives one.
@@ -28,13 +27,12 @@ fn trace_lines<A: Allocator + Copy>(
     alloc: A,
     input: &[u8],
     parameters: &[Value<'_>; 9],
-    form: Form,
-    color: Color,
+    options: &TraceOptions,
 ) -> Result<Vec<u8, A>, ToolFault>
-    ensures { let IsDue = IsTraced parameters.now (trace_forms.Lines form color) input.now in
+    ensures { let IsDue = IsTraced parameters.now (trace_forms.Lines options.now) input.now in
         MatchResult result (λ v. IsDue (Ok v.items)) (FailsAsDue IsDue) }
 {
-    match trace(alloc, input, parameters, form, color) {
+    match trace(alloc, input, parameters, options) {
         Ok(text) => Ok(text),
         Err(TraceFault::Cap(refused)) => Err(ToolFault::Cap(refused)),
         Err(TraceFault::TextTooLong(parameter)) => Err(ToolFault::TextTooLong(parameter)),
@@ -71,7 +69,7 @@ pub fn trace_result<A: Allocator + Copy>(
         (FailsAsDue (IsTraced parameters.now form input.now)) }
 {
     match form {
-        TraceForm::Lines(form, color) => trace_lines(alloc, input, parameters, form, color),
+        TraceForm::Lines(options) => trace_lines(alloc, input, parameters, &options),
         TraceForm::Json => trace_document(alloc, input, parameters),
     }
 }

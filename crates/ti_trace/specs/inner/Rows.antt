@@ -11,7 +11,7 @@ abbrev pub row_token : Row → TracedToken
 row_token row =
     record { place = row.place; spelling = row.spelling.now; outcome = row.outcome; stack = row.stack.now; wrote = row.wrote.now }
 
--- the token that a pass over the bytes has just taken: where it starts, and how many bytes were written before it
+-- the tokens that a pass over the bytes has just taken: where they start, and how many bytes were written before them
 abbrev pub token_taken : List ℕ → Underway → Outcome → (place written : ℕ) → TracedToken
 token_taken bytes u outcome place written =
     record { place = place; spelling = take (length u.spot.taken - place) (drop place bytes); outcome = outcome; stack = reverse u.state.stack; wrote = drop written u.state.output }

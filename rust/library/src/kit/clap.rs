@@ -19,6 +19,7 @@ pub mod error {
         OutOfMemory,
         DisplayHelp,
         DisplayVersion,
+        InvalidSubcommand,
         Other,
     }
 }
@@ -41,6 +42,7 @@ impl Error {
             None => ErrorKind::OutOfMemory,
             Some(Kind::DisplayHelp) => ErrorKind::DisplayHelp,
             Some(Kind::DisplayVersion) => ErrorKind::DisplayVersion,
+            Some(Kind::InvalidSubcommand) => ErrorKind::InvalidSubcommand,
             Some(_) => ErrorKind::Other,
         }
     }

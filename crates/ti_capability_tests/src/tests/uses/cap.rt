@@ -1,4 +1,4 @@
-//! What a capability needs, and why another is none.
+//! The limits of a capability, and the fault of bytes that are none.
 
 use std::test::Fail;
 use ti_cap::{CapFault, CapRefused, Capability};

@@ -1,4 +1,4 @@
-//! What words request.
+//! The request of some words.
 
 use std::test::Fail;
 use ti_line::{Action, Destination, read_line};

@@ -1,4 +1,4 @@
-//! What an entry says of its terminal.
+//! The values of an entry.
 
 use std::test::Fail;
 use ti_entry::{Position, read};

@@ -1,4 +1,4 @@
-//! What the capability that moves the cursor is called, and where it stands.
+//! The name and the index of the capability that moves the cursor.
 
 use std::test::Fail;
 use ti_names::NameTable;

@@ -1,4 +1,4 @@
-//! What a byte, a word and a magic number of an entry mean.
+//! The meaning of a byte, a word and a magic number of an entry.
 
 use std::test::Fail;
 use ti_words::{Flag, Number, Width, flag_of, number_of, width_of_magic};

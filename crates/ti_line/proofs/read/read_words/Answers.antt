@@ -41,7 +41,19 @@ returns-in-Ok-clause-read c =
     let whole = found_complete (texts_of c.args.words.now) c.in-Some.command.now rows found (ti_fails _ _ (Ok c.in_ok-matches.matches) c.in_ok-program.ensures c.in_ok-matches.ensures.kinds) in
     let (command, is, answered) = of_found c.in-Some.command.now rows (λ x. IsAnswered c.args.to x rows c.action_of.result) whole c.action_of.ensures in
     let Answered : Result Action LineFault → Type 0 = IsAnswered c.args.to command rows in
-    (command, rows, sym (ap command_in found) ∙ is, (subst Answered c.in-Ok.is answered, c.in_ok-files-in-Some.ensures ∙ ap files_found found, c.has_summary-has_summary.ensures ∙ ap summary_found found))
+    (command, rows, sym (ap command_in found) ∙ is, (sym c.flag.ensures ∙ c.if-flag.true, (c.in-Ok.field-0, subst Answered c.in-Ok.is answered), c.in_ok-explained-in-Ok.ensures))
+
+pub returns-in-Ok-2-clause-read : goal.returns-in-Ok-2-clause-read
+returns-in-Ok-2-clause-read c =
+    let rows = rows_of (found_of c.in-Some.given.now) in
+    let found = ti_finds _ _ c.in_ok-matches.matches c.in-Some.command.now rows c.in_ok-program.ensures c.in_ok-matches.ensures.matches (sym c.in-Some.ensures.name) (sym c.in-Some.ensures.rows) in
+    let whole = found_complete (texts_of c.args.words.now) c.in-Some.command.now rows found (ti_fails _ _ (Ok c.in_ok-matches.matches) c.in_ok-program.ensures c.in_ok-matches.ensures.kinds) in
+    let (command, is, answered) = of_found c.in-Some.command.now rows (λ x. IsAnswered c.args.to x rows c.action_of.result) whole c.action_of.ensures in
+    let Answered : Result Action LineFault → Type 0 = IsAnswered c.args.to command rows in
+    (command, rows, sym (ap command_in found) ∙ is, (subst Answered c.in-Ok.is answered, c.in_ok-files-in-Some.ensures ∙ ap files_found found, c.has_summary-has_summary.ensures ∙ ap summary_found found, sym c.flag.ensures ∙ c.if-flag.false))
+
+pub returns-in-Ok-2-clause-kinds : goal.returns-in-Ok-2-clause-kinds
+returns-in-Ok-2-clause-kinds c = ti_fails _ _ (Ok c.in_ok-matches.matches) c.in_ok-program.ensures c.in_ok-matches.ensures.kinds
 
 pub returns-in-Some-clause-read : goal.returns-in-Some-clause-read
 returns-in-Some-clause-read c =

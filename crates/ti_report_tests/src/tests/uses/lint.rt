@@ -1,4 +1,4 @@
-//! What is wrong with a text that was taken over from termcap.
+//! The findings on a text that was taken over from termcap.
 
 use std::test::Fail;
 use ti_cap::Capability;

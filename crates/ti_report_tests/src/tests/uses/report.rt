@@ -1,4 +1,4 @@
-//! What is wrong with an entry that was taken over from termcap.
+//! The findings on an entry that was taken over from termcap.
 
 use std::test::Fail;
 use ti_entry::read;

@@ -1,4 +1,4 @@
-//! What two entries do not have alike, for a person and for a program that reads JSON.
+//! The differences of two entries, for a person and for a program that reads JSON.
 
 use std::test::Fail;
 use ti_entry::read;

@@ -19,7 +19,7 @@ returns-in-Ok-clause-read g c = λ command rows reads.
     (streams (g.R.Read.remaining c.run_request.new.input) (g.W.Write.contents c.run_request.new.output) (g.E.Write.contents c.run_request.new.errors)) c.run_request.result in
     let wanted : c.extras_of-extras.result ≡ extras_for c.args.at (texts_of c.args.words.now) c.in-Ok.request.action =
     ap₂ (λ s a. record { summary = s; has_advice = a }) (c.extras_of-extras.ensures.summary ∙ ap (λ has. summary_of (c.args.at.errors || has) c.in-Ok.request.action) asks.2) c.extras_of-extras.ensures.advice in
-    inl (c.in-Ok.request.action, asks.0, subst Wanted wanted (subst Ran (ap texts_of c.as_slice-files.ensures.value ∙ asks.1) c.run_request.ensures.ran))
+    inl (c.in-Ok.request.action, asks.0, asks.3, subst Wanted wanted (subst Ran (ap texts_of c.as_slice-files.ensures.value ∙ asks.1) c.run_request.ensures.ran))
 
 pub returns-in-Ok-clause-unread : goal.returns-in-Ok-clause-unread
 returns-in-Ok-clause-unread g c = λ none. let (command, rows, reads, asks) = c.in-Ok.ensures.read in absurd (none (command, rows, reads))
@@ -35,10 +35,10 @@ pub returns-in-Ok-clause-no_input : goal.returns-in-Ok-clause-no_input
 returns-in-Ok-clause-no_input g c = λ none. let (command, rows, reads, asks) = c.in-Ok.ensures.read in absurd (none (command, rows, reads))
 
 pub returns-in-Ok-clause-silent : goal.returns-in-Ok-clause-silent
-returns-in-Ok-clause-silent g c = λ none.
+returns-in-Ok-clause-silent g c = λ none named.
     let (command, rows, reads, asks) = c.in-Ok.ensures.read in
     let wanted = c.extras_of-extras.ensures.summary ∙ ap (λ has. summary_of (c.args.at.errors || has) c.in-Ok.request.action) asks.2 in
-    c.run_request.ensures.silent (wanted ∙ none command rows c.in-Ok.request.action reads asks.0)
+    c.run_request.ensures.silent (wanted ∙ none command rows c.in-Ok.request.action reads asks.0) (named command rows c.in-Ok.request.action reads asks.0)
 
 pub returns-in-Err-clause-read : goal.returns-in-Err-clause-read
 returns-in-Err-clause-read g c = λ command rows reads. inr (c.in-Err.why, c.in-Err.ensures.only command rows reads, refl, c.run_no_request.ensures.ends (g.R.Read.remaining c.args.input.now) (g.R.Read.remaining c.args.input.now))

@@ -10,7 +10,7 @@ use Rattle.ti_expand.specs.inner.Running.{IsReady}
 use Rattle.ti_expand.proofs.IsExpandFaultLemmas.{accepted}
 use Rattle.ti_trace.specs.Objects.{IsTraceJson}
 use Rattle.ti_trace.specs.inner.Rows.{facts_totals}
-use Rattle.ti_trace.specs.inner.Traced.{HasPrinted, token_tokens, totals_so_far}
+use Rattle.ti_trace.specs.inner.Traced.{HasPrinted, objects_tokens, totals_so_far}
 use Rattle.ti_trace.proofs.ObjectLemmas.{trace_is_text}
 use Rattle.ti_trace.proofs.TraceLemmas.{document_is}
 use Rattle.ti_trace.proofs.TracedLemmas.{Telling, telling}
@@ -35,9 +35,9 @@ returns g c =
     subst (λ (n : ℕ). HasBound bytes n c.bound-bound.result) c.requires.short.longest_is (subst (λ (x : List ℕ). HasBound x c.args.longest c.bound-bound.result) c.requires.bytes c.bound-bound.ensures.exact) in
     let begun = c.begin_list.new.self in
     let done = c.print_tokens.new.printer in
-    let told : HasPrinted bytes c.in-Ok.steps.state u begun done → done.is_refused ≡ false → Telling token_tokens bytes c.args.parameters.now begun.tokens done.tokens (totals_so_far u c.depth-depth.result c.bound-bound.result) =
-    λ printed is. telling token_tokens bytes c.args.parameters.now tree.tree u c.depth-depth.result c.bound-bound.result c.in-Ok.steps.state begun.tokens done.tokens
-    tree.writes deep bounded (ap (λ (x : Underway). x.state) c.in-Ok.ensures.start ∙ ap (λ (v : List ℤ). start v c.args.parameters.now) c.new-vars.ensures.zero) (printed is).1 c.print_tokens.ensures.end in
+    let told : HasPrinted bytes c.in-Ok.steps.state u begun done → done.is_refused ≡ false → Telling objects_tokens bytes c.args.parameters.now begun.tokens done.tokens (totals_so_far u c.depth-depth.result c.bound-bound.result) =
+    λ printed is. telling objects_tokens bytes c.args.parameters.now tree.tree u c.depth-depth.result c.bound-bound.result c.in-Ok.steps.state begun.tokens done.tokens
+    refl tree.writes deep bounded (ap (λ (x : Underway). x.state) c.in-Ok.ensures.start ∙ ap (λ (v : List ℤ). start v c.args.parameters.now) c.new-vars.ensures.zero) (printed is).1 c.print_tokens.ensures.end in
     let made : (out : List ℕ) → (c.end_list.new.self.is_refused ≡ false) × (out ≡ print c.end_list.new.self.tokens) → IsTraceJson bytes c.args.parameters.now out =
     λ out. document_is bytes c.args.parameters.now c.new-printer.result begun done c.print_totals.new.printer c.end_list.new.self out (facts_totals c.facts_of-facts.result) _
     c.new-printer.ensures.tokens c.begin_list.ensures (λ is. (c.print_tokens.ensures.objects is).0) (told c.print_tokens.ensures.objects)

@@ -1,17 +1,12 @@
-use Rattle.std.proofs.Common.{ap, arith, length, refl}
-use Rattle.ti_expand.proofs.FlatGrowsLemmas.{output_grows}
+use Rattle.std.proofs.Common.{◌∙◌, ◌++◌, ℕ, List, ap, length}
 use Rattle.ti_trace.specs.Lines.{token_line}
-use Rattle.ti_trace.proofs.RowLemmas.{row_goes_on}
+use Rattle.ti_trace.specs.Trace.{row_lines}
+use Rattle.ti_trace.specs.inner.Rows.{token_taken}
+use Rattle.ti_trace.proofs.RowLemmas.{appended}
 use Rattle.ti_trace.proofs.tracing.push_next.Goals as goal
-
--- what was written before the token is still there
-pub row_taken-row-requires-clause-written : goal.row_taken-row-requires-clause-written
-row_taken-row-requires-clause-written g c =
-    let grows = output_grows c.args.steps.now.mode c.in-Some.step.token c.args.steps.now.state in
-    omega (arith, grows, ap length c.output-written.ensures, ap (λ s. length s.output) c.in-Some.ensures.state)
 
 pub returns-clause-lines : goal.returns-clause-lines
 returns-clause-lines g c =
-    let step = c.in-Some.ensures in
-    row_goes_on (token_line c.args.form c.args.color) c.args.bytes.now c.args.out.now.items c.push_row.new.out.items _ c.args.steps.now c.step.new.self c.in-Some.step.token c.at-place.result (length c.output-written.result.now) c.in-Some.step.outcome _
-    c.requires step.takes step.mode step.state step.ran step.passed step.peak step.outcome c.at-place.ensures (ap length c.output-written.ensures) c.row_taken-row.ensures c.in_ok-push_row.ensures refl
+    let line = token_line c.args.options.now.form c.args.options.now.color in
+    appended (row_lines c.args.options.now) line c.args.bytes.now c.args.out.now.items c.push_row.new.out.items c.args.steps.now c.take_row.new.steps c.in-Some.outcome c.at-place.result (length c.output-written.result.now) _
+    c.at-place.ensures (ap length c.output-written.ensures) c.row_taken-row.ensures c.in_ok-push_row.ensures (c.in-Some.ensures.row line c.args.out.now.items)

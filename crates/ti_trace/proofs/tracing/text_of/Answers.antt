@@ -8,8 +8,8 @@ use Rattle.ti_expand.specs.inner.Running.{IsReady}
 use Rattle.ti_expand.proofs.IsExpandFaultLemmas.{accepted}
 use Rattle.ti_trace.specs.Columns.{header}
 use Rattle.ti_trace.specs.inner.Traced.{IsTraced}
-use Rattle.ti_trace.specs.Lines.{token_line}
-use Rattle.ti_trace.proofs.TraceLemmas.{trace_is}
+use Rattle.ti_trace.specs.Trace.{row_lines}
+use Rattle.ti_trace.proofs.TraceLemmas.{no_lines, trace_is}
 use Rattle.ti_trace.proofs.TracedLemmas.{telling}
 use Rattle.ti_trace.proofs.tracing.text_of.Goals as goal
 
@@ -25,7 +25,7 @@ unreachable-requires g c =
 pub returns : goal.returns
 returns g c =
     let bytes : List ℕ = c.args.bytes.now in
-    let render = token_line c.args.form c.args.color in
+    let render = row_lines c.args.options.now in
     let u : Underway = c.push_lines.new.steps in
     let deep : HasDepth bytes c.depth-depth.result = subst (λ (x : List ℕ). HasDepth x c.depth-depth.result) c.requires.bytes c.depth-depth.ensures.exact in
     let tree : IsWellFormed bytes = subst IsWellFormed c.requires.bytes c.depth-depth.ensures.tree in
@@ -34,5 +34,5 @@ returns g c =
     let lines : IsTraced render bytes c.in-Ok.steps.state u header c.push_lines.new.out.items =
     subst (λ (before : List ℕ). IsTraced render bytes c.in-Ok.steps.state u before c.push_lines.new.out.items) c.in_ok-out.ensures.items c.in_ok-push_lines.ensures.lines in
     let t = telling render bytes c.args.parameters.now tree.tree u c.depth-depth.result c.bound-bound.result c.in-Ok.steps.state header c.push_lines.new.out.items
-    tree.writes deep bounded (ap (λ (x : Underway). x.state) c.in-Ok.ensures.start ∙ ap (λ (v : List ℤ). start v c.args.parameters.now) c.new-vars.ensures.zero) lines c.in_ok-push_lines.ensures.end in
-    trace_is c.args.form c.args.color bytes c.args.parameters.now c.push_lines.new.out.items c.push_footer.new.out.items _ _ t c.facts_of-facts.ensures c.in_ok-push_footer.ensures
+    (no_lines c.args.options.now) tree.writes deep bounded (ap (λ (x : Underway). x.state) c.in-Ok.ensures.start ∙ ap (λ (v : List ℤ). start v c.args.parameters.now) c.new-vars.ensures.zero) lines c.in_ok-push_lines.ensures.end in
+    trace_is c.args.options.now bytes c.args.parameters.now c.push_lines.new.out.items c.push_footer.new.out.items _ _ t c.facts_of-facts.ensures c.in_ok-push_footer.ensures

@@ -12,6 +12,6 @@ returns-in-Err-Memory g c =
     let passed = (c.trace.ensures.memory out_of_memory).0 in
     inl (
       refl,
-      traced_needs c.args.parameters.now (trace_forms.Lines c.args.form c.args.color) c.args.input.now
+      traced_needs c.args.parameters.now (trace_forms.Lines c.args.options.now) c.args.input.now
           (expandable c.args.input.now c.args.parameters.now passed (none_too_long_traced c.trace.result c.args.input.now c.args.parameters.now passed c.trace.ensures.too_long out_of_memory)),
     )

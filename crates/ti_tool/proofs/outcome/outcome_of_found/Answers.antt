@@ -3,7 +3,7 @@ use Rattle.std.specs.Prelude.{is_some, string_bytes}
 use Rattle.ti_tool.specs.Streams.{file_name}
 use Rattle.ti_tool.specs.inner.Files.{job_of}
 use Rattle.ti_tool.proofs.FileRunsLemmas.{contents_led, unread_led}
-use Rattle.ti_tool.proofs.files.outcome_of_found.Goals as goal
+use Rattle.ti_tool.proofs.outcome.outcome_of_found.Goals as goal
 
 pub returns-in-Ok-clause-led : goal.returns-in-Ok-clause-led
 returns-in-Ok-clause-led g c =

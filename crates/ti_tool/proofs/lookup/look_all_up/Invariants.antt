@@ -3,7 +3,7 @@ use Rattle.std.specs.Prelude.{is_some, string_bytes}
 use Rattle.ti_line.specs.Requests.{texts_of}
 use Rattle.ti_tool.specs.Streams.{file_name}
 use Rattle.ti_tool.proofs.FileRunsLemmas.{Found}
-use Rattle.ti_tool.proofs.files.look_all_up.Given as goal
+use Rattle.ti_tool.proofs.lookup.look_all_up.Given as goal
 
 -- what the words so far name
 abbrev pub invariant-loop-word : goal.invariant-loop-word

@@ -1,7 +1,7 @@
 use Rattle.ti_tool.specs.inner.Files.{job_of}
 use Rattle.ti_tool.proofs.FileLemmas.{fault_is_high}
 use Rattle.ti_tool.proofs.FileRunsLemmas.{fault_led, fault_unseen}
-use Rattle.ti_tool.proofs.files.outcome_of.Goals as goal
+use Rattle.ti_tool.proofs.outcome.outcome_of.Goals as goal
 
 pub fault_outcome-requires : goal.fault_outcome-requires
 fault_outcome-requires g c = rw c.status-in-Err.ensures (fault_is_high c.in-Err.fault)

@@ -3,8 +3,8 @@ use Rattle.std.specs.Prelude.{is_some, string_bytes}
 use Rattle.std.proofs.lemmas.List.{map-append}
 use Rattle.ti_tool.specs.Streams.{file_name, lookup}
 use Rattle.ti_tool.proofs.FileRunsLemmas.{found_word}
-use Rattle.ti_tool.proofs.files.look_all_up.Goals.{then-are_several, else-are_several}
-use Rattle.ti_tool.proofs.files.look_all_up.Goals as goal
+use Rattle.ti_tool.proofs.lookup.look_all_up.Goals.{then-are_several, else-are_several}
+use Rattle.ti_tool.proofs.lookup.look_all_up.Goals as goal
 
 pub loop-word-preserved : goal.loop-word-preserved
 loop-word-preserved g c =

@@ -1,0 +1,40 @@
+-- What is said of a notation with the name of its capability before it, as in a source of terminfo.
+use Rattle.std.specs.Prelude.{ℕ, ◌==◌, Bool, true, false, List, [], ◌++◌, Option, Some, None, codes, if◌then◌else◌, option_and_then, take}
+use Rattle.std.specs.List.{position}
+use Rattle.ti_base.specs.Letters.{letter}
+use Rattle.ti_entry.specs.Finding.{standard_place}
+use Rattle.ti_line.specs.declared.request.Action.{Action}
+use Rattle.ti_line.specs.declared.request.Action.TheVariants.{Source}
+use Rattle.ti_names.specs.AllNames.{Place}
+use Rattle.ti_tool.specs.FaultLines.{shown_name}
+use Rattle.ti_words.specs.declared.Kind.TheVariants as kinds
+
+abbrev pub is_equals : ℕ → Bool
+is_equals byte = byte == letter (codes "=")
+
+abbrev pub is_string : Option Place → Bool
+is_string (Some (kinds.Text, index)) = true
+is_string _ = false
+
+abbrev pub string_name : List ℕ → Option (List ℕ)
+string_name name = if is_string (standard_place name) then Some name else None
+
+-- what stands before the first `=`, if it is a short or long name of a string
+abbrev pub pasted_name : List ℕ → Option (List ℕ)
+pasted_name text = option_and_then (λ count. string_name (take count text)) (position is_equals text)
+
+-- the line after such a name
+abbrev pub pasted_rest : List ℕ
+pasted_rest = codes "=: give the string alone, without a comma at its end\n"
+
+abbrev pub name_line : Option (List ℕ) → List ℕ
+name_line None = []
+name_line (Some name) = codes "  this starts with " ++ shown_name name ++ pasted_rest
+
+abbrev pub pasted_line : List ℕ → List ℕ
+pasted_line text = name_line (pasted_name text)
+
+-- of what is kept of an input, if it is a notation
+abbrev pub pasted_in : Action → List ℕ → List ℕ
+pasted_in (Source c) kept = pasted_line kept
+pasted_in action kept = []
