@@ -1,34 +1,36 @@
 -- How a request is answered, from what is read, and what a call has done.
-use Rattle.std.proofs.Common.{◌≡◌, ◌<◌, ℕ, Bool, ◌⊎◌, inl, inr, List, [], ◌++◌, Ok, Err, Some, None, append-nil, cond, length, refl, subst, sym, ap, ◌∙◌}
+use Rattle.std.proofs.Common.{◌≡◌, ◌<◌, ℕ, Bool, ◌⊎◌, inl, inr, List, [], ◌++◌, Ok, Err, Some, None, append-nil, cond, length, refl, subst, sym, take, ap, ◌∙◌}
 use Rattle.std.specs.Prelude.{Option, Result, IfErr, IfOk, IfSome, MatchResult, false, nat_le, true, unwrap_or}
 use Rattle.std.specs.Io.KnownBytes.{Consumes, IsAtEnd}
 use Rattle.std.proofs.KnownBytes.{Keeps-refl}
 use Rattle.ti_tool.specs.declared.fault.ToolFault.{ToolFault}
 use Rattle.ti_tool.specs.declared.fault.ToolFault.TheVariants as fault
 use Rattle.ti_layout.specs.declared.fault.Refused.{Refused}
-use Rattle.ti_layout.specs.Refusal.{failure}
 use Rattle.ti_words.specs.Spelling.{Spells}
 use Rattle.ti_words.specs.Value.{EntryValue}
-use Rattle.ti_entry.specs.Reading.{Reading, FeedsFrom, new_reading, reading_after, refusal_after}
+use Rattle.ti_entry.specs.Reading.{Reading, refusal_after}
 use Rattle.ti_entry.specs.declared.source.ReadStop.{ReadStop}
 use Rattle.ti_entry.specs.declared.source.ReadStop.TheVariants as stop
-use Rattle.ti_entry.proofs.FeedLemmas.{failure_refuses}
-use Rattle.ti_entry.proofs.FeedsFromLemmas.{FeedsFrom-whole}
+use Rattle.ti_entry.proofs.FeedLemmas.{failure_refuses, reading_of-passed}
 use Rattle.ti_line.specs.declared.request.Action.{Action}
 use Rattle.ti_line.specs.declared.request.Action.TheVariants.{Capability, Difference, Entry, Source}
 use Rattle.ti_line.specs.declared.request.EntryAction.{EntryAction}
 use Rattle.ti_line.specs.declared.request.EntryAction.TheVariants as of_entry
 use Rattle.ti_tool.specs.Calls.{DidCall, DidCheck, FailsAsDue, HasReadEnough, IsEnough, IsFailedWrite, Wrote, stop_fault}
 use Rattle.ti_tool.specs.Advice.{IsAdvised, advice_if, hints, kept_of, most_kept, read_text, text_advice}
+use Rattle.ti_draft.specs.declared.fault.EncodeFault.TheVariants as encode
+use Rattle.ti_report.specs.Blocks.{indented}
 use Rattle.ti_tool.specs.Sources.{notation_in, text_of}
 use Rattle.ti_tool.specs.declared.extras.Extras.{Extras}
 use Rattle.ti_tool.specs.FaultLines.{IsAnswerLine, action_line, fault_line}
-use Rattle.ti_tool.specs.FileRuns.{Contents, Delivered, IsInput, IsOutcomeOfInput, IsToldLast, NoMemory, RanInput, Supply, Unread, looked, pasted_of}
+use Rattle.ti_tool.specs.FileRuns.{Contents, Delivered, IsInput, IsOutcomeOfInput, IsToldLast, NoMemory, RanInput, Supply, Unread, front_of, looked, pasted_of}
 use Rattle.ti_tool.specs.Results.{Finds, IsAnswer, IsDueIn}
 use Rattle.ti_tool.specs.Summaries.{IsSummarized}
 use Rattle.ti_tool.specs.Statuses.{status_for}
 use Rattle.ti_tool.specs.Streams.{Streams}
-use Rattle.ti_tool.specs.inner.Answered.{HasFault, HasOutput, IsKept, held_of}
+use Rattle.ti_tool.specs.Sentences.{most_front}
+use Rattle.ti_tool.specs.inner.Answered.{FeedsFront, HasFault, HasOutput, IsKept, held_of}
+use Rattle.ti_tool.proofs.FrontLemmas.{sentence_by_front}
 use Rattle.ti_tool.proofs.IsDueLemmas.{IsNeverOwn, output_never, source_never}
 use Rattle.ti_tool.proofs.NeedsMemoryLemmas.{due_from}
 use Rattle.ti_tool.proofs.OneResultLemmas.{entry_never}
@@ -68,22 +70,18 @@ did_write due enough left0 left1 held0 held1 input out written answer read at d 
     let P : List ℕ → Type 0 = λ x. due input (Ok x) in
     record { input = input; read = read; ended = ended (enough input) left1 answer at; wrote = wrote_due (due input) written held0 held1 answer (subst P (sym e) d) w fails }
 
--- what a new reader refused is why the bytes fail
-stopped_on : (bytes : List ℕ) (old new : Reading) (r : Refused) → old ≡ new_reading → new ≡ reading_after old bytes → new.refusal ≡ Some r → failure bytes ≡ Some r
-stopped_on bytes old new r o n h = ap (λ x. (reading_after x bytes).refusal) (sym o) ∙ ap (λ x. x.refusal) (sym n) ∙ h
-
--- all that there was to read is kept, and nothing is refused so far
-pub record KeepsAll (before after : Option (List ℕ)) (reading : Reading) : Type 0 where
+-- all that there was to read is kept, and its front too, and nothing is refused so far
+pub record KeepsAll (before after : Option (List ℕ)) (reading : Reading) (text : List ℕ) : Type 0 where
   pub read : Consumes before after reading.kept
+  pub front : text ≡ take most_front reading.kept
   pub end : IsAtEnd after
   pub unrefused : reading.refusal ≡ None
 
 -- a new reader that read to the end
-pub keeps_all : (before after : Option (List ℕ)) (old new : Reading) → old ≡ new_reading → FeedsFrom before after old new → IsAtEnd after → new.refusal ≡ None
-    → KeepsAll before after new
-keeps_all before after old new first fed end none =
-    let Fed : Reading → Type 0 = λ r. FeedsFrom before after r new in
-    record { read = FeedsFrom-whole before after new (subst Fed first fed) none; end = end; unrefused = none }
+pub keeps_all : (before after : Option (List ℕ)) (new : Reading) (text : List ℕ) → FeedsFront before after new text → IsAtEnd after → new.refusal ≡ None → KeepsAll before after new text
+keeps_all before after new text (bytes, took, fed, same) end none =
+    let kept : bytes ≡ new.kept = sym (ap (λ r. r.kept) (fed ∙ reading_of-passed bytes (sym (ap (λ r. r.refusal) fed) ∙ none))) in
+    record { read = subst (Consumes before after) kept took; front = same ∙ ap (take most_front) kept; end = end; unrefused = none }
 
 -- ---- requests
 
@@ -94,37 +92,37 @@ answer_never (Entry e) input = entry_never e true input
 answer_never (Difference d) input = record { no_write = λ gone d. d; no_memory = λ d. d }
 
 -- a source that stopped gave no entry
-pub stopped : (e : EntryAction) (kept : List ℕ) (left0 left1 : Option (List ℕ)) (old new : Reading) (why : ReadStop) → old ≡ new_reading → FeedsFrom left0 left1 old new
-    → new.refusal ≡ refusal_after why → (supply : Supply) × IsInput (Entry e) left0 left1 supply × HasFault (Entry e) kept supply (stop_fault why)
-stopped e kept left0 left1 old new stop.Io first (bytes, took, fed) none = (Unread, (bytes, took), (refl, tt))
-stopped e kept left0 left1 old new (stop.Refused refused) first (bytes, took, fed) some =
-    let failed = stopped_on bytes old new refused first fed some in
-    (Contents bytes, (took, inl (refused, failed)), (inr (inl (refused, failure_refuses bytes refused failed, refl)), tt))
+pub stopped : (e : EntryAction) (kept front : List ℕ) (left0 left1 : Option (List ℕ)) (new : Reading) (why : ReadStop) → FeedsFront left0 left1 new front
+    → new.refusal ≡ refusal_after why → (supply : Supply) × IsInput (Entry e) left0 left1 supply × HasFault (Entry e) kept front supply (stop_fault why)
+stopped e kept front left0 left1 new stop.Io (bytes, took, fed, same) none = (Unread, (bytes, took), (refl, tt))
+stopped e kept front left0 left1 new (stop.Refused refused) (bytes, took, fed, same) some =
+    let failed = sym (ap (λ r. r.refusal) fed) ∙ some in
+    (Contents bytes, (took, inl (refused, failed)), (inr (inl (refused, failure_refuses bytes refused failed, refl)), same))
 
 -- what is due for an entry is due for the bytes that are kept of it
-pub entry_answered : {O : Type 0} (passed : O → Bool) (out : O → List ℕ) (r : Result O ToolFault) (e : EntryAction) (kept bytes : List ℕ) (v : EntryValue) → Spells kept v → bytes ≡ kept
+pub entry_answered : {O : Type 0} (passed : O → Bool) (out : O → List ℕ) (r : Result O ToolFault) (e : EntryAction) (kept front bytes : List ℕ) (v : EntryValue) → Spells kept v → bytes ≡ kept → front ≡ take most_front kept
     → IfOk r (λ o. IsDueIn [] e (passed o) bytes v (Ok (out o))) → IfErr r (FailsAsDue (IsDueIn [] e true bytes v))
-    → MatchResult r (λ o. HasOutput (Entry e) kept (Contents kept) (passed o) (out o)) (HasFault (Entry e) kept (Contents kept))
-entry_answered passed out (Ok o) e kept bytes v spells same due fails =
+    → MatchResult r (λ o. HasOutput (Entry e) kept (Contents kept) (passed o) (out o)) (HasFault (Entry e) kept front (Contents kept))
+entry_answered passed out (Ok o) e kept front bytes v spells same first due fails =
     (inr (v, spells, subst (λ (b : List ℕ). IsDueIn [] e (passed o) b v (Ok (out o))) same due), refl)
-entry_answered passed out (Err why) e kept bytes v spells same due fails = (
+entry_answered passed out (Err why) e kept front bytes v spells same first due fails = (
   due_from (IsDueIn [] e true kept) kept v why spells (subst (λ (b : List ℕ). FailsAsDue (IsDueIn [] e true b v) why) same fails),
-  is_kept e kept why,
+  is_kept why,
 )
   where
-    is_kept : (e : EntryAction) (kept : List ℕ) (why : ToolFault) → IsKept (Entry e) kept kept why
-    is_kept e kept (fault.Entry refused) = tt
-    is_kept e kept other = refl
+    is_kept : (why : ToolFault) → IsKept (Entry e) kept front kept why
+    is_kept (fault.Entry refused) = first
+    is_kept other = (refl, first)
 
 module _ (action : Action) (left0 left1 : Option (List ℕ)) where
   -- a call that was answered with a fault
-  pub failed_call : (supply : Supply) (kept : List ℕ) (held : Option (List ℕ)) (e : ToolFault) → IsInput action left0 left1 supply → HasFault action kept supply e
+  pub failed_call : (supply : Supply) (kept front : List ℕ) (held : Option (List ℕ)) (e : ToolFault) → IsInput action left0 left1 supply → HasFault action kept front supply e
       → DidCheck (IsAnswer action) (IsEnough action) left0 left1 held held (Err e)
-  failed_call (Contents bytes) kept held e (read, at) (due, same) = (true, tt, did_fail (IsAnswer action true) (IsEnough action) left0 left1 held bytes e read at (answer_never action bytes) due)
-  failed_call Unread kept held e (bytes, read) (is, none) =
+  failed_call (Contents bytes) kept front held e (read, at) (due, same) = (true, tt, did_fail (IsAnswer action true) (IsEnough action) left0 left1 held bytes e read at (answer_never action bytes) due)
+  failed_call Unread kept front held e (bytes, read) (is, none) =
       let Did : ToolFault → Type 0 = λ f. DidCall (IsAnswer action true) (IsEnough action) left0 left1 held held (Err f) in
       (true, tt, subst Did (sym is) (record { input = bytes; read = read; ended = tt; wrote = Keeps-refl held }))
-  failed_call NoMemory kept held e none h = absurd none
+  failed_call NoMemory kept front held e none h = absurd none
 
   -- a call that wrote an output
   pub wrote_call : (supply : Supply) (kept : List ℕ) (passed : Bool) (held0 held1 : Option (List ℕ)) (out written : List ℕ) (answer : Result (Unit {0}) ToolFault) → IsInput action left0 left1 supply
@@ -143,18 +141,18 @@ read_line (Entry (of_entry.Trace t)) near = refl
 read_line action near = refl
 
 -- no advice comes after it
-read_alone : (has_advice : Bool) (action : Action) (input advice : List ℕ) → IsAdvised (hints has_advice []) action input fault.Read advice → advice ≡ []
-read_alone false action input advice is = is
-read_alone true (Capability c) input advice is = is
-read_alone true (Source c) input advice is = is
-read_alone true (Difference d) input advice is = is
-read_alone true (Entry (of_entry.Expand e)) input advice is = is
-read_alone true (Entry e) input advice is = is
+read_alone : (has_advice : Bool) (action : Action) (front input advice : List ℕ) → IsAdvised (hints has_advice front) action input fault.Read advice → advice ≡ []
+read_alone false action front input advice is = is
+read_alone true (Capability c) front input advice is = is
+read_alone true (Source c) front input advice is = is
+read_alone true (Difference d) front input advice is = is
+read_alone true (Entry (of_entry.Expand e)) front input advice is = is
+read_alone true (Entry e) front input advice is = is
 
-read_told : (has_advice : Bool) (action : Action) (input told : List ℕ) (why : ToolFault) → why ≡ fault.Read → IsAnswerLine {V = Bool} (hints has_advice []) action input (Err why) told → told ≡ fault_line fault.Read
-read_told has_advice action input told why read is =
-    let (near, are, (advice, advised, says)) = subst (λ w. IsAnswerLine {V = Bool} (hints has_advice []) action input (Err w) told) read is in
-    says ∙ ap (λ a. action_line action near fault.Read ++ a) (read_alone has_advice action input advice advised) ∙ append-nil (action_line action near fault.Read) ∙ read_line action near
+read_told : (has_advice : Bool) (action : Action) (front input told : List ℕ) (why : ToolFault) → why ≡ fault.Read → IsAnswerLine {V = Bool} (hints has_advice front) action input (Err why) told → told ≡ fault_line fault.Read
+read_told has_advice action front input told why read is =
+    let (near, are, (advice, advised, says)) = subst (λ w. IsAnswerLine {V = Bool} (hints has_advice front) action input (Err w) told) read is in
+    says ∙ ap (λ a. action_line action near fault.Read ++ a) (read_alone has_advice action front input advice advised) ∙ append-nil (action_line action near fault.Read) ∙ read_line action near
 
 -- the line on a fault of what is held is that of what was read
 refused_told : (known : Option (List ℕ)) (e : EntryAction) (r : Refused) (kept bytes line : List ℕ) → IsAnswerLine {V = Bool} known (Entry e) kept (Err (fault.Entry r)) line → IsAnswerLine {V = Bool} known (Entry e) bytes (Err (fault.Entry r)) line
@@ -166,6 +164,21 @@ refused_told (Some front) (of_entry.Trace t) r kept bytes line told = told
 refused_told (Some front) (of_entry.Expand x) r kept bytes line told = told
 refused_told (Some front) e r kept bytes line told = told
 
+-- the line by the front of what was read is that by all of it
+front_advised : (has_advice : Bool) (e : EntryAction) (bytes : List ℕ) (why : ToolFault) (advice : List ℕ) → IsAdvised (hints has_advice (take most_front bytes)) (Entry e) bytes why advice
+    → IsAdvised (hints has_advice bytes) (Entry e) bytes why advice
+front_advised false e bytes why advice is = is
+front_advised true (of_entry.Expand x) bytes (fault.Entry r) advice is = is ∙ ap indented (sentence_by_front bytes r.fault)
+front_advised true e bytes (fault.Entry r) advice is = is ∙ ap indented (sentence_by_front bytes r.fault)
+front_advised true e bytes (fault.Encode encode.NumberOutOfRange) advice is = is
+front_advised true e bytes why advice is = is
+
+front_told : (has_advice : Bool) (e : EntryAction) (front bytes : List ℕ) (why : ToolFault) (line : List ℕ) → front ≡ take most_front bytes → IsAnswerLine {V = Bool} (hints has_advice front) (Entry e) bytes (Err why) line
+    → IsAnswerLine {V = Bool} (hints has_advice bytes) (Entry e) bytes (Err why) line
+front_told has_advice e front bytes why line same is =
+    let (near, are, (advice, advised, says)) = subst (λ (f : List ℕ). IsAnswerLine {V = Bool} (hints has_advice f) (Entry e) bytes (Err why) line) same is in
+    (near, are, (advice, front_advised has_advice e bytes why advice advised, says))
+
 -- an input is kept as it was kept before
 kept_twice : (input : List ℕ) → kept_of (kept_of input) ≡ kept_of input
 kept_twice input = help _ refl
@@ -174,19 +187,21 @@ kept_twice input = help _ refl
     help true is = ap (λ b. cond b input []) is
     help false is = refl
 
-told_of_kept : (known : Option (List ℕ)) (action : Action) (kept bytes : List ℕ) (e : ToolFault) (line : List ℕ) → IsKept action kept bytes e → IsAnswerLine {V = Bool} known action kept (Err e) line → IsAnswerLine {V = Bool} known action bytes (Err e) line
-told_of_kept known (Entry e) kept bytes (fault.Entry r) line same is = refused_told known e r kept bytes line is
-told_of_kept known (Entry e) kept bytes why line same is = subst (λ (x : List ℕ). IsAnswerLine {V = Bool} known (Entry e) x (Err why) line) same is
-told_of_kept (Some front) (Capability c) kept bytes (fault.Cap r) line same (near, are, (advice, advised, says)) =
+told_of_kept : (has_advice : Bool) (action : Action) (kept front bytes : List ℕ) (e : ToolFault) (line : List ℕ) → IsKept action kept front bytes e
+    → IsAnswerLine {V = Bool} (hints has_advice (front_of action front)) action kept (Err e) line → IsAnswerLine {V = Bool} (hints has_advice (front_of action bytes)) action bytes (Err e) line
+told_of_kept has_advice (Entry e) kept front bytes (fault.Entry r) line same is = front_told has_advice e front bytes (fault.Entry r) line same (refused_told (hints has_advice front) e r kept bytes line is)
+told_of_kept has_advice (Entry e) kept front bytes why line (same, first) is =
+    front_told has_advice e front bytes why line first (subst (λ (x : List ℕ). IsAnswerLine {V = Bool} (hints has_advice front) (Entry e) x (Err why) line) same is)
+told_of_kept true (Capability c) kept front bytes (fault.Cap r) line same (near, are, (advice, advised, says)) =
     (near, are, (advice, advised ∙ ap (λ t. text_advice t r) (ap kept_of same ∙ kept_twice bytes), says))
-told_of_kept (Some front) (Source c) kept bytes (fault.Cap r) line same (near, are, (advice, advised, says)) =
+told_of_kept true (Source c) kept front bytes (fault.Cap r) line same (near, are, (advice, advised, says)) =
     (near, are, (advice, advised ∙ ap (λ t. advice_if (read_text (text_of (notation_in t))) r) (ap kept_of same ∙ kept_twice bytes), says))
-told_of_kept (Some front) (Capability c) kept bytes why line same is = is
-told_of_kept (Some front) (Source c) kept bytes why line same is = is
-told_of_kept (Some front) (Difference d) kept bytes why line same is = is
-told_of_kept None (Capability c) kept bytes why line same is = is
-told_of_kept None (Source c) kept bytes why line same is = is
-told_of_kept None (Difference d) kept bytes why line same is = is
+told_of_kept true (Capability c) kept front bytes why line same is = is
+told_of_kept true (Source c) kept front bytes why line same is = is
+told_of_kept true (Difference d) kept front bytes why line same is = is
+told_of_kept false (Capability c) kept front bytes why line same is = is
+told_of_kept false (Source c) kept front bytes why line same is = is
+told_of_kept false (Difference d) kept front bytes why line same is = is
 
 module _ (has_advice : Bool) (action : Action) where
   pub output_leads : (supply : Supply) (kept : List ℕ) (passed : Bool) (out bytes line : List ℕ) (status : ℕ) → HasOutput action kept supply passed out → Finds action passed → bytes ≡ out → line ≡ [] → status ≡ status_for (Ok passed)
@@ -196,15 +211,16 @@ module _ (has_advice : Bool) (action : Action) where
   output_leads Unread kept passed out bytes line status due finds same none is = absurd due
   output_leads NoMemory kept passed out bytes line status due finds same none is = absurd due
 
-  pub fault_leads : (supply : Supply) (kept held : List ℕ) (why : ToolFault) (told bytes line : List ℕ) (status : ℕ) → HasFault action kept supply why → held ≡ kept → IsAnswerLine {V = Bool} (hints has_advice []) action held (Err why) told
-      → line ≡ told → bytes ≡ [] → status ≡ status_for (Err why) → IsOutcomeOfInput has_advice action supply bytes line status
-  fault_leads (Contents input) kept held why told bytes line status (due, is_kept) holds is_told same none is =
-      let OfKept : List ℕ → Type 0 = λ x. IsAnswerLine {V = Bool} (hints has_advice []) action x (Err why) told in
-      (Err why, is, (due, none, (told, told_of_kept (hints has_advice []) action kept input why told is_kept (subst OfKept holds is_told), same)))
-  fault_leads Unread kept held why told bytes line status (read, kept_none) holds is_told same none is =
-      (none, same ∙ read_told has_advice action held told why read is_told, is ∙ ap (λ w. status_for (Err w)) read)
-  fault_leads NoMemory kept held why told bytes line status (read, kept_none) holds is_told same none is =
-      (none, same ∙ read_told has_advice action held told why read is_told, is ∙ ap (λ w. status_for (Err w)) read)
+  pub fault_leads : (supply : Supply) (kept held front text : List ℕ) (why : ToolFault) (told bytes line : List ℕ) (status : ℕ) → HasFault action kept front supply why → held ≡ kept → text ≡ front
+      → IsAnswerLine {V = Bool} (hints has_advice (front_of action text)) action held (Err why) told → line ≡ told → bytes ≡ [] → status ≡ status_for (Err why) → IsOutcomeOfInput has_advice action supply bytes line status
+  fault_leads (Contents input) kept held front text why told bytes line status (due, is_kept) holds starts is_told same none is =
+      let Of : List ℕ → List ℕ → Type 0 = λ f x. IsAnswerLine {V = Bool} (hints has_advice (front_of action f)) action x (Err why) told in
+      let of_kept = subst (Of front) holds (subst (λ (f : List ℕ). Of f held) starts is_told) in
+      (Err why, is, (due, none, (told, told_of_kept has_advice action kept front input why told is_kept of_kept, same)))
+  fault_leads Unread kept held front text why told bytes line status (read, kept_none) holds starts is_told same none is =
+      (none, same ∙ read_told has_advice action (front_of action text) held told why read is_told, is ∙ ap (λ w. status_for (Err w)) read)
+  fault_leads NoMemory kept held front text why told bytes line status (read, kept_none) holds starts is_told same none is =
+      (none, same ∙ read_told has_advice action (front_of action text) held told why read is_told, is ∙ ap (λ w. status_for (Err w)) read)
 
 module _ (action : Action) where
   -- a request of standard input that leads to something, which is delivered

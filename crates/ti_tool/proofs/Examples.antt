@@ -1,5 +1,5 @@
 -- Worked rows of the definitions.
-use Rattle.std.proofs.Common.{◌≡◌, [], ◌∷◌, ◌++◌, true, false, arith, inl, inr, refl}
+use Rattle.std.proofs.Common.{◌≡◌, [], ◌∷◌, ◌++◌, true, false, arith, inl, inr, refl, take}
 use Rattle.std.specs.Fmt.{digits}
 use Rattle.std.specs.Prelude.{codes, pos}
 use Rattle.ti_cap.specs.declared.language.CapFault.TheVariants.{CutShort}
@@ -20,6 +20,7 @@ use Rattle.ti_tool.specs.FileRuns.{IsReason}
 use Rattle.ti_tool.specs.Files.{shown_file}
 use Rattle.ti_tool.specs.ItemNames.{IsKindLabel}
 use Rattle.ti_tool.specs.Pasted.{pasted_line}
+use Rattle.ti_tool.specs.Sentences.{front_sentence, most_front}
 use Rattle.ti_tool.specs.declared.item_name.Names.TheVariants as names
 use Rattle.ti_tool.specs.Verdicts.{is_pattern, written}
 use Rattle.ti_tool.specs.WideNumbers.{first_wide, wide_advice}
@@ -34,6 +35,10 @@ bare_label = inl (refl, (codes "10", refl, (omega arith, (omega arith, (omega ar
 
 word_label : IsKindLabel names.All (codes "text#10") kinds.Text 10
 word_label = inr (codes "#10", refl, (codes "10", refl, (omega arith, (omega arith, (omega arith, tt))), omega arith, refl))
+
+-- a file of gzip in standard input is known by its front
+gzip_row : front_sentence (take most_front (31 ∷ 139 ∷ 8 ∷ 0 ∷ 0 ∷ [])) ≡ codes "this is compressed by gzip; decompress it"
+gzip_row = refl
 
 -- after `output: failed` on a full disk
 reason_row : IsReason true (codes "  No space left on device\n")

@@ -1,6 +1,7 @@
 pub mod Examples
 pub mod IsDueLemmas
 pub mod SourcesLemmas
+pub mod FrontLemmas
 pub mod DidCallLemmas
 pub mod PastedLemmas
 pub mod EditsLemmas

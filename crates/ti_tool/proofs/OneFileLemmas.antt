@@ -20,7 +20,7 @@ use Rattle.ti_tool.specs.Documents.{AreObjects, FindsIn}
 use Rattle.ti_cap.specs.declared.language.CapRefused.{CapRefused}
 use Rattle.ti_tool.specs.Advice.{IsAdvice, IsAdvised, IsEntryAdvice, IsNamed, advice_if, hints}
 use Rattle.ti_tool.specs.FaultLines.{AreTold, AreToldFor, IsAnswerLine, action_line}
-use Rattle.ti_tool.specs.FileRuns.{AnswerLeadsTo, Contents, IsDueOfJob, IsOutcome, Job, NoMemory, Supply, Unread, greatest_status}
+use Rattle.ti_tool.specs.FileRuns.{AnswerLeadsTo, Contents, IsDueOfJob, IsOutcome, Job, NoMemory, Supply, Unread, front_of, greatest_status}
 use Rattle.ti_tool.specs.Files.{before_findings, file_line, result_of_file}
 use Rattle.ti_tool.specs.Got.{IsValueResult}
 use Rattle.ti_tool.specs.Near.{AreNearest}
@@ -193,7 +193,7 @@ one_file job name contents out outs line lines status code low high (answer, s, 
 
 pub one_input : InputHasOneResult
 one_input has_advice action (Contents bytes) out outs line lines status code low high (answer, s, is) (other, t, too) =
-    led (hints has_advice []) action (λ told. told) bytes (λ passed. IsAnswer action passed bytes) (λ passed as_passed. one_answer action bytes passed as_passed) (λ passed as_passed out outs. one_verdict action bytes out outs passed as_passed)
+    led (hints has_advice (front_of action bytes)) action (λ told. told) bytes (λ passed. IsAnswer action passed bytes) (λ passed as_passed. one_answer action bytes passed as_passed) (λ passed as_passed out outs. one_verdict action bytes out outs passed as_passed)
     out outs line lines status code low high answer other s t is too
 one_input has_advice action Unread out outs line lines status code low high (none, is, s) (empty, too, t) = (none ∙ sym empty, s ∙ sym t, inl (is ∙ sym too))
 one_input has_advice action NoMemory out outs line lines status code low high (none, is, s) (empty, too, t) = (none ∙ sym empty, s ∙ sym t, inl (is ∙ sym too))

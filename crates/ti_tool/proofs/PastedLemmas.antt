@@ -21,10 +21,10 @@ module _ (action : Action) (kept text : List ℕ) where
       pasted a Unread passed out h = absurd h
       pasted a NoMemory passed out h = absurd h
 
-  pub fault_pasted : (supply : Supply) (why : ToolFault) → HasFault action (held_of action kept text) supply why → pasted_in action text ≡ pasted_of action supply
+  pub fault_pasted : (supply : Supply) (why : ToolFault) → HasFault action (held_of action kept text) text supply why → pasted_in action text ≡ pasted_of action supply
   fault_pasted supply why h = pasted action supply why h
     where
-      pasted : (a : Action) (supply : Supply) (why : ToolFault) → HasFault a (held_of a kept text) supply why → pasted_in a text ≡ pasted_of a supply
+      pasted : (a : Action) (supply : Supply) (why : ToolFault) → HasFault a (held_of a kept text) text supply why → pasted_in a text ≡ pasted_of a supply
       pasted (Source c) (Contents bytes) why (due, keeps) = ap pasted_line keeps
       pasted (Source c) Unread why (is, none) = ap pasted_line none
       pasted (Source c) NoMemory why (is, none) = ap pasted_line none

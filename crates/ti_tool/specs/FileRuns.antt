@@ -190,10 +190,16 @@ IsInput action left0 left1 (Contents bytes) = Consumes left0 left1 bytes × (IsE
 IsInput action left0 left1 Unread = (bytes : List ℕ) × Consumes left0 left1 bytes
 IsInput action left0 left1 NoMemory = ⊥
 
--- if no word names it, its lines on faults have no name, and the front of what is refused is not known
+-- the bytes by whose front the line on a refused entry says what they are
+abbrev pub front_of : Action → List ℕ → List ℕ
+front_of (Entry e) bytes = bytes
+front_of action bytes = []
+
+-- if no word names it, its lines on faults have no name
 abbrev pub IsOutcomeOfInput : Bool → Action → Supply → List ℕ → List ℕ → ℕ → Type 0
 IsOutcomeOfInput has_advice action (Contents bytes) out line status =
-    LeadsTo (λ passed. IsAnswer action passed bytes) (hints has_advice []) action (λ told. told) bytes out line status
+    LeadsTo (λ passed. IsAnswer action passed bytes) (hints has_advice (front_of action bytes)) action (λ told. told) bytes
+    out line status
 IsOutcomeOfInput has_advice action _ out line status =
     (out ≡ []) × (line ≡ fault_line fault.Read) × (status ≡ 5)
 

@@ -43,6 +43,10 @@ front_sentence bytes =
     else if starts_with nat_eq bytes (codes "<") then codes "this is HTML or XML"
     else codes "this is no compiled entry; compile a terminfo source with tic -x"
 
+-- the most bytes that it depends on
+abbrev pub most_front : ℕ
+most_front = 4
+
 -- of the bytes of an entry
 abbrev pub entry_sentence : List ℕ → Fault → List ℕ
 entry_sentence bytes entry.BadMagic = front_sentence bytes

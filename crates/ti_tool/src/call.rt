@@ -2,28 +2,30 @@
 //!
 //! Nothing is written before the whole result is there: after a fault other than `Write` the writer is as it was.
 
-ghost use Rattle.std.specs.Prelude.{◌⊎◌, ◌≡◌, [], IfErr, IfOk, MatchResult, true};
+ghost use Rattle.std.specs.Prelude.{◌⊎◌, ◌≡◌, [], IfErr, IfOk, MatchResult, None, OnOk, true};
+ghost use Rattle.std.specs.Io.KnownBytes.{IsAtEnd};
 ghost use Rattle.ti_line.specs.declared.request.Action.TheVariants.{Capability, Entry, Source};
 ghost use Rattle.ti_tool.specs.Advice.{kept_of};
 ghost use Rattle.ti_tool.specs.Calls.{DidCheck, IsEnough, IsFailedWrite};
 ghost use Rattle.ti_tool.specs.FileRuns.{IsInput, Supply};
 ghost use Rattle.ti_tool.specs.Results.{Finds, IsAnswer};
-ghost use Rattle.ti_tool.specs.inner.Answered.{HasFault, HasOutput, held_of};
-ghost use Rattle.ti_entry.specs.Reading.{new_reading};
+ghost use Rattle.ti_tool.specs.inner.Answered.{FeedsFront, HasFault, HasOutput, held_of};
+ghost use Rattle.ti_entry.specs.Reading.{new_reading, refusal_after};
 
 use crate::advice::MOST_KEPT;
 use crate::command::{Answer, answer_of_capability, answer_of_entry, answer_of_source};
 use crate::fault::ToolFault;
 use crate::result::write_result;
+use crate::sentence::MOST_FRONT;
 use crate::source::{MOST_BYTES, MOST_CHARACTERS, read_up_to};
 use arrayvec::ArrayVec;
 use std::alloc::Allocator;
 use std::io::{Read, Write};
-use ti_entry::{EntryReader, read_from};
+use ti_entry::{EntryReader, ReadStop, read_from};
 use ti_line::{Action, CapabilityAction, EntryAction};
 use ti_report::Trials;
 
-/// An input, a capability or its notation, as it is kept for the advice on a fault.
+/// What is kept of an input for the advice on a fault: a capability or its notation, or the front of an entry.
 pub type InputText = ArrayVec<u8, MOST_KEPT>;
 
 /// Keeps an input, if it is short.
@@ -50,7 +52,7 @@ fn answer_of_bytes<A: Allocator + Copy, R: Read>(
         × IsInput (Capability action.now) (R.remaining reader.old) (R.remaining reader.new) supply
         × MatchResult result
         (λ a. HasOutput (Capability action.now) text.new.items supply a.passed a.bytes.items)
-        (HasFault (Capability action.now) text.new.items supply) }
+        (HasFault (Capability action.now) text.new.items text.new.items supply) }
 {
     let mut input: ArrayVec<u8, MOST_BYTES> = ArrayVec::new();
     read_up_to(&mut input, reader)?;
@@ -77,7 +79,7 @@ fn answer_of_notation<A: Allocator + Copy, R: Read>(
         × IsInput (Source action.now) (R.remaining reader.old) (R.remaining reader.new) supply
         × MatchResult result
         (λ a. HasOutput (Source action.now) text.new.items supply a.passed a.bytes.items)
-        (HasFault (Source action.now) text.new.items supply) }
+        (HasFault (Source action.now) text.new.items text.new.items supply) }
 {
     let mut input: ArrayVec<u8, MOST_CHARACTERS> = ArrayVec::new();
     read_up_to(&mut input, reader)?;
@@ -94,22 +96,51 @@ fn answer_of_notation<A: Allocator + Copy, R: Read>(
     })
 }
 
-/// The output of a request on what the reader gives as an entry, which is kept.
+/// Reads an entry to its end, and keeps its front too, since a reader does not keep the byte that it refuses.
+fn read_fronted<R: Read>(
+    kept: &mut EntryReader,
+    front: &mut InputText,
+    reader: &mut R,
+) -> Result<(), ReadStop>
+    requires kept { kept.old ≡ new_reading }
+    requires front { front.old.items ≡ [] }
+    ensures fed { FeedsFront
+        (R.remaining reader.old) (R.remaining reader.new) kept.new front.new.items }
+    ensures end { OnOk result (IsAtEnd (R.remaining reader.new)) }
+    ensures accepted { OnOk result (kept.new.refusal ≡ None) }
+    ensures refused { IfErr result (λ stop. kept.new.refusal ≡ refusal_after stop) }
+{
+    let mut first: ArrayVec<u8, MOST_FRONT> = ArrayVec::new();
+    let came = read_up_to(&mut first, reader);
+    let bytes = first.as_slice();
+    keep(front, bytes);
+    kept.feed(bytes)?;
+    came?;
+    if first.is_full() {
+        read_from(kept, reader)
+    } else {
+        Ok(())
+    }
+}
+
+/// The output of a request on what the reader gives as an entry, which is kept. Its front is kept too.
 fn answer_of_kept<A: Allocator + Copy, R: Read>(
     alloc: A,
     action: &EntryAction<'_>,
     kept: &mut EntryReader,
+    front: &mut InputText,
     reader: &mut R,
 ) -> Result<Answer<A>, ToolFault>
-    requires { kept.old ≡ new_reading }
+    requires kept { kept.old ≡ new_reading }
+    requires front { front.old.items ≡ [] }
     ensures finds { IfOk result (λ a. Finds (Entry action.now) a.passed) }
     ensures answered { (supply : Supply)
         × IsInput (Entry action.now) (R.remaining reader.old) (R.remaining reader.new) supply
         × MatchResult result
         (λ a. HasOutput (Entry action.now) kept.new.kept supply a.passed a.bytes.items)
-        (HasFault (Entry action.now) kept.new.kept supply) }
+        (HasFault (Entry action.now) kept.new.kept front.new.items supply) }
 {
-    read_from(kept, reader)?;
+    read_fronted(kept, front, reader)?;
     let entry = kept.finish()?;
     let bytes = kept.bytes();
     let mut trials = Trials::new(alloc);
@@ -131,12 +162,12 @@ pub(crate) fn answer_of_input<A: Allocator + Copy, R: Read>(
         × IsInput action.now (R.remaining reader.old) (R.remaining reader.new) supply
         × MatchResult result
         (λ a. HasOutput action.now (held_of action.now kept.new.kept text.new.items) supply a.passed a.bytes.items)
-        (HasFault action.now (held_of action.now kept.new.kept text.new.items) supply) }
+        (HasFault action.now (held_of action.now kept.new.kept text.new.items) text.new.items supply) }
 {
     match action {
         Action::Capability(action) => answer_of_bytes(alloc, action, text, reader),
         Action::Source(action) => answer_of_notation(alloc, action, text, reader),
-        Action::Entry(action) => answer_of_kept(alloc, action, kept, reader),
+        Action::Entry(action) => answer_of_kept(alloc, action, kept, text, reader),
         Action::Difference(_) => Err(ToolFault::Read),
     }
 }

@@ -6,7 +6,7 @@ ghost use Rattle.ti_line.specs.Requests.{texts_of};
 ghost use Rattle.ti_line.specs.declared.request.Action.TheVariants.{Entry};
 ghost use Rattle.ti_tool.specs.Advice.{hints, most_kept};
 ghost use Rattle.ti_tool.specs.FaultLines.{AreTold, AreToldFor, IsAnswerLine};
-ghost use Rattle.ti_tool.specs.FileRuns.{HasNoName, IsToldLast, RanInput};
+ghost use Rattle.ti_tool.specs.FileRuns.{HasNoName, IsToldLast, RanInput, front_of};
 ghost use Rattle.ti_tool.specs.Runs.{DidLine, DidNoLine, EndsWords, HasNoPastedName, HasNoSummary, MayHaveWritten, RanRequest, no_terminals};
 ghost use Rattle.ti_tool.specs.inner.Answered.{held_of};
 ghost use Rattle.ti_tool.specs.inner.Tallies.{HasContents};
@@ -87,7 +87,8 @@ pub(crate) fn entry_line<A: Allocator + Copy>(
     )
 }
 
-/// The line on the fault of a request, and the advice. The bytes of an entry are kept, and else the input, which may change.
+/// The line on the fault of a request, and the advice. The bytes of an entry are kept, and `input` has its front; else it is the
+/// input, which may change.
 fn answer_line<A: Allocator + Copy>(
     alloc: A,
     has_advice: bool,
@@ -97,12 +98,12 @@ fn answer_line<A: Allocator + Copy>(
     fault: &ToolFault,
 ) -> AdvisedLine
     requires { length input.old ≤ most_kept }
-    ensures { IsAnswerLine {V = Bool} (hints has_advice []) action.now (held_of action.now kept.now input.old)
-        (Err fault.now) result.items }
+    ensures { IsAnswerLine {V = Bool} (hints has_advice (front_of action.now input.old)) action.now
+        (held_of action.now kept.now input.old) (Err fault.now) result.items }
 {
     let line = fault_line(fault);
     match action {
-        Action::Entry(action) => entry_line(alloc, has_advice, b"", action, kept, fault),
+        Action::Entry(action) => entry_line(alloc, has_advice, input, action, kept, fault),
         Action::Capability(_) => advised(&line, &advice_on_capability(has_advice, input, fault)),
         Action::Source(_) => advised(&line, &advice_on_source(has_advice, input, fault)),
         Action::Difference(_) => advised(&line, &advice_on_nothing(has_advice, fault)),

@@ -50,6 +50,9 @@ pub fn notation_sentence(fault: NotationFault) -> &'static str
     }
 }
 
+/// The most bytes by which a file that is no entry is known.
+pub const MOST_FRONT: usize = 4;
+
 /// Of a file that is no entry, by its first bytes.
 fn front_sentence(bytes: &[u8]) -> &'static str
     ensures value { result.now ≡ the_front_sentence bytes.now }

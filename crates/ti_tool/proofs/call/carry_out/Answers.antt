@@ -7,7 +7,7 @@ pub returns-in_err-answer-clause-did : goal.returns-in_err-answer-clause-did
 returns-in_err-answer-clause-did g c =
     let p = err_from_is_err_and c.from_residual.result c.from_residual.ensures.1 in
     let (supply, read, fails) = c.in_err-answer.ensures.answered in
-    rw (p.1, p.2) (failed_call c.args.action.now _ _ supply _ _ c.in_err-answer.field-0.0 read fails)
+    rw (p.1, p.2) (failed_call c.args.action.now _ _ supply _ _ _ c.in_err-answer.field-0.0 read fails)
 
 pub returns-in_err-write_result-clause-did : goal.returns-in_err-write_result-clause-did
 returns-in_err-write_result-clause-did g c =

@@ -43,7 +43,7 @@ returns-in-Err-clause-ran g c =
     (streams (g.R.Read.remaining c.args.input.now) (g.W.Write.contents c.args.output.now) (g.E.Write.contents c.args.errors.now))
     told told (streams left held (g.E.Write.contents c.report_last-in-Err.new.errors))
     _ _ _ c.deliver_last-status-in-Err.result read
-    (fault_leads c.args.extras.has_advice c.args.action.now supply _ (held_of c.args.action.now c.bytes-in-Err.result.now c.as_mut_slice-text.result.now) c.in-Err.fault c.answer_line-line.result.items _ _ _ fails (ap₂ (held_of c.args.action.now) c.bytes-in-Err.ensures c.as_mut_slice-text.ensures.value) c.answer_line-line.ensures
+    (fault_leads c.args.extras.has_advice c.args.action.now supply _ (held_of c.args.action.now c.bytes-in-Err.result.now c.as_mut_slice-text.result.now) _ c.as_mut_slice-text.result.now c.in-Err.fault c.answer_line-line.result.items _ _ _ fails (ap₂ (held_of c.args.action.now) c.bytes-in-Err.ensures c.as_mut_slice-text.ensures.value) c.as_mut_slice-text.ensures.value c.answer_line-line.ensures
     (c.line_alone-ending.ensures.line ∙ c.as_slice-in-Err.ensures.value) c.line_alone-ending.ensures.nothing (c.line_alone-ending.ensures.status ∙ c.status.ensures))
     c.deliver_last-status-in-Err.ensures.delivered
     (unsummarized c.args.extras.summary _ _)
