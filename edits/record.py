@@ -1,7 +1,7 @@
 """The record of refused wrong bodies, edits/record.tsv, and which edits are tried by it.
 
 A line has the name of an edit and the sum of what its verdict rests on, as it was refused; then `in place` if it was tried in its
-place and not in a copy. The sum covers the kit and the scripts that judge too. A line with another sum says nothing, and of two lines
+place and not in a copy. The sum covers the kit's logic and the scripts that judge too. A line with another sum says nothing, and of two lines
 for one edit none counts, so that a merge may keep the lines of both sides. The line `all` has the version at which all were tried.
 """
 
@@ -26,9 +26,9 @@ JUDGES = ["bodies.py", "said.py", "trial.py"]
 
 @lru_cache(None)
 def judges() -> str:
-    """The sum of the kit's line, of the scripts that judge, and of how these call the prover."""
-    kit = (kit_folder() / "KIT-ID").read_text(encoding="utf-8").strip()
-    return sum_of([kit, *((HERE / name).read_text(encoding="utf-8") for name in JUDGES), getsource(words_for)])
+    """The sum of the kit's logic, of the scripts that judge, and of how these call the prover."""
+    logic = (kit_folder() / "KIT-ID").read_text(encoding="utf-8").strip().split(" logic ")[1]
+    return sum_of([logic, *((HERE / name).read_text(encoding="utf-8") for name in JUDGES), getsource(words_for)])
 
 
 def version() -> str:
