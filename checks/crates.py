@@ -1,9 +1,6 @@
 """The crates of crates.txt: which stands on which, what is made of each, and with which words the prover is called for it."""
 
 import re
-import shutil
-import subprocess
-import sys
 from collections.abc import Iterable
 from functools import lru_cache
 from pathlib import Path
@@ -91,10 +88,3 @@ def words_for(crate: str, kit: Path, jobs: int) -> list[str]:
     words += ["--antt-project", kit / "rattle/logic/antt-project.json", "--logic-built", kit / "logic_built"]
     words += ["--links", f"{crate}=", "--jobs", str(jobs), *(["--crate-type", "staticlib"] if is_static(crate) else [])]
     return [str(word) for word in words]
-
-
-def kit_folder() -> Path:
-    """The folder of the kit whose `rt` is on the path."""
-    if shutil.which("rt") is None:
-        sys.exit("prove: there is no rt on the path")
-    return Path(subprocess.run(["rt", "doc"], capture_output=True, text=True, check=True).stdout.strip()).parent

@@ -1,10 +1,12 @@
 """What lies in dist/: the files, the record of what they were made of, and the sums to hold them against."""
 
+import re
 import subprocess
 from dataclasses import dataclass, field
 from hashlib import sha256
 from pathlib import Path
 
+from checks.kit import kit_by
 from checks.machine import DIST
 
 # Each proved file of dist/ with the crate of which it is made.
@@ -14,6 +16,7 @@ OTHER_FILES = {f"aarch64/{name}": crate for name, crate in FILES.items()}
 
 # The page, which is not proved. `dist/sources page` sums up what it is made of.
 PAGE = "page.html"
+ROW = re.compile(r"file (\S+) ([0-9a-f]{64}) sources ([0-9a-f]{64})")
 
 
 @dataclass
@@ -25,13 +28,17 @@ class Record:
     linkers: str = ""
     page_tools: str = ""
     files: dict[str, tuple[str, str]] = field(default_factory=dict)
+    # Whether the file is there, and whether it was cut short.
+    is_there: bool = False
+    is_cut: bool = False
 
 
 def read_record(folder: Path = DIST) -> Record:
     """The record of a folder, which is empty if there is none."""
-    record = Record()
     path = folder / "record"
-    for line in path.read_text().splitlines() if path.exists() else []:
+    text = path.read_text() if path.exists() else ""
+    record = Record(is_there=path.exists())
+    for line in text.splitlines():
         word, _, rest = line.partition(" ")
         if word == "kit":
             record.kit = rest
@@ -39,9 +46,9 @@ def read_record(folder: Path = DIST) -> Record:
             record.linkers = rest
         elif word == "page":
             record.page_tools = rest
-        elif word == "file":
-            name, total, _, sources = rest.split(" ")
-            record.files[name] = total, sources
+        elif found := ROW.fullmatch(line):
+            record.files[found[1]] = found[2], found[3]
+    record.is_cut = record.is_there and not (text.endswith("\n") and kit_by(record.kit) and record.files.keys() >= FILES.keys())
     return record
 
 

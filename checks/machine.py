@@ -39,6 +39,8 @@ PACKAGES: dict[str, tuple[str, ...]] = {
     "librust-clap-dev": (),
     "librust-strsim-dev": (),
     "librust-term-dev": (),
+    "librust-vte-dev": (),
+    "libvterm-dev": (),
     "man-db": ("man",),
     "jq": ("jq",),
     "bash-completion": (),

@@ -3,12 +3,13 @@
 On a tree that differs from a commit, the last one if none is named, it looks at the layout of the changed crates, looks up what
 the documents name, proves the changed crates and tries their wrong bodies. Then it runs the parts that test the built program
 and the library for C, side by side: on what was proved and built here, or on what lies in dist/, if that is of these sources.
-Where neither is, and rt has kept what it takes, they are built over that; else these parts are left out. The first line says what
-is tested, and the last what is left out.
+Where neither is, and rt has kept what it takes, they are built over that; else these parts are left out. A part that counts many
+cases tries a draw of them (draw.py). The first line says what is tested, and the last what the processors took and what is left out.
 """
 
 import os
 import re
+import resource
 import subprocess
 import sys
 import time
@@ -18,16 +19,20 @@ from dataclasses import dataclass, field
 from pathlib import Path
 from typing import NoReturn
 
-from checks.crates import CRATES, below, folder_of, kit_folder
+from checks.crates import CRATES, below, folder_of
+from checks.draw import seed_of_tree
+from checks.kit import kit_folder
 from checks.machine import DIST, PROVED_ARCHIVE, PROVED_PROGRAM, ROOT, is_there, taken
 
 # The parts that test the built program and the library, those that take longest first.
 OF_PROGRAM = [
-    "rust/check", "page/check", "dist/qemu", "completions/check", "model/compare 150", "docs/commands", "c/installed", "c/check",
-    "c/package", "model/names", "model/tic", "model/tput", "model/upstream", "dist/check", "python/check", "c/header", "program/check", "program/paths",
-    "program/hostile", "program/tasks",
+    "rust/check", "page/check", "dist/qemu", "completions/check", "model/compare 500", "docs/commands", "c/installed", "c/check",
+    "c/package", "model/names", "model/terminals", "model/tic", "model/tput", "model/upstream", "dist/check", "python/check", "c/header", "program/check", "program/paths",
+    "program/hostile", "program/tasks", "program/remedies",
 ]
 WHOLE = "./gate is the whole test"
+# What cargo compiles for longer than half a minute.
+OF_CARGO = "of rust/check the crate's own tests, its documentation, other processors and the program by cargo"
 # What a part cannot try here, for lack of one of the packages that ./neighbours installs.
 LACKING = re.compile(r"\w+: left out[:,] .*")
 MADE = {"ti": PROVED_PROGRAM, "ti_c": PROVED_ARCHIVE}
@@ -36,15 +41,17 @@ STARTED = time.monotonic()
 
 @dataclass
 class Part:
-    """A part that ran: its name, its status, its last line, and the seconds that it took."""
+    """A part that ran: its name, its status, its last line, and the seconds that it took by the clock and of the processors."""
 
     name: str
     status: int
     said: str
     seconds: float
+    processors: float
 
     def line(self) -> str:
-        return f"{self.name:24} {self.seconds:5.0f} s  {'' if not self.status else f'status {self.status}: '}{self.said}"
+        times = f"{self.seconds:5.0f} s {self.processors:5.0f} s"
+        return f"{self.name:24} {times}  {'' if not self.status else f'status {self.status}: '}{self.said}"
 
 
 @dataclass
@@ -58,23 +65,29 @@ class Quick:
     def run(self, name: str, words: list[str], folder: Path = ROOT) -> bool:
         """Runs a part, and writes what it wrote when it has ended. Whether it went well."""
         began = time.monotonic()
-        done = subprocess.run(words, cwd=folder, stdin=subprocess.DEVNULL, stdout=subprocess.PIPE, stderr=subprocess.STDOUT,
-                              text=True, errors="replace", check=False)
-        lines = done.stdout.splitlines()
+        with subprocess.Popen(words, cwd=folder, stdin=subprocess.DEVNULL, stdout=subprocess.PIPE, stderr=subprocess.STDOUT) as process:
+            lines = (process.stdout.read() if process.stdout else b"").decode(errors="replace").splitlines()
+            _, status, used = os.wait4(process.pid, 0)
+            process.returncode = os.waitstatus_to_exitcode(status)
         print("\n".join([f"== {name}", *lines]), flush=True)
         self.lacking.update(filter(LACKING.fullmatch, lines))
-        self.parts.append(Part(name, done.returncode, lines[-1] if lines else "", time.monotonic() - began))
-        return done.returncode == 0
+        said, taken_time = lines[-1] if lines else "", used.ru_utime + used.ru_stime
+        self.parts.append(Part(name, process.returncode, said, time.monotonic() - began, taken_time))
+        return process.returncode == 0
 
     def failed(self) -> list[str]:
         return [part.name for part in self.parts if part.status]
 
     def end(self) -> NoReturn:
         """Ends with a table of the parts, and a line on what failed and what was left out."""
-        seconds = time.monotonic() - STARTED
-        print("\n".join([*(part.line() for part in self.parts), f"{'in total':24} {seconds:5.0f} s", *sorted(self.lacking)]))
+        wall, used = time.monotonic() - STARTED, resource.getrusage(resource.RUSAGE_CHILDREN)
+        processors = used.ru_utime + used.ru_stime
+        head = f"{'part':24} {'clock':>7} {'processors':>7}"
+        total = f"{'in total':24} {wall:5.0f} s {processors:5.0f} s"
+        print("\n".join([head, *(part.line() for part in self.parts), total, *sorted(self.lacking)]))
         verdict = f"failed: {', '.join(self.failed())}" if self.failed() else f"{len(self.parts)} parts passed"
-        print(f"quick: {verdict}, on {tested()}; left out: {'; '.join(self.left_out)}; {WHOLE}")
+        left_out = "; ".join(self.left_out)
+        print(f"quick: {verdict} in {processors:.0f} s of the processors, on {tested()}; left out: {left_out}; {WHOLE}")
         sys.exit(1 if self.failed() else 0)
 
 
@@ -196,9 +209,10 @@ def test_program(quick: Quick) -> None:
 def main(commit: str = "HEAD") -> NoReturn:
     """The quick gate, of what differs from a commit."""
     quick = Quick()
+    os.environ["TI_DRAW"] = seed_of_tree()
     print(f"quick: what takes minutes, on {tested()}; {WHOLE}", flush=True)
     quick.run("docs/check", [str(ROOT / "docs/check")])
     look_at_changes(quick, commit)
     test_program(quick)
-    quick.left_out += ["rt ci", "the wrong bodies of other crates", "edits/test", "dist/compare"]
+    quick.left_out += ["rt ci", "the wrong bodies of other crates", "edits/test", "dist/compare", OF_CARGO]
     quick.end()

@@ -6,6 +6,10 @@
 # each file has the sum that dist/record says, and the sources of this checkout have theirs. If TI_PROVED_ONLY is set, as
 # --prove and ./gate set it, nothing in dist/ is looked at.
 
+# What a script here calls is to import no module of another folder, and to ask git about no other repository.
+users_pythonpath=${PYTHONPATH-}
+unset PYTHONPATH "${!GIT_@}"
+
 dist=$root/dist
 record=$dist/record
 # What was found out is kept here. Git ignores it.
@@ -91,11 +95,19 @@ crate_of() {
 # Whether a file in dist/ fits. If not, `why` says what it lacks.
 fits() {
     local file=$1 seen
+    is_no_link "$file" && is_no_link record || return 1
     seen=$(times_of "$file")
     [ -n "$seen" ] && [ -f "$kept/$file.fits" ] && [ "$(<"$kept/$file.fits")" = "$seen" ] && return 0
     has_sums "$file" || return 1
     if [ "$file" = ti ]; then runs_here || return; fi
     [ -z "$seen" ] || keep "$file.fits" "$seen"
+}
+
+# Whether a file in dist/ is no link, whose target could change without a trace in what is kept.
+is_no_link() {
+    [ -L "$dist/$1" ] || return 0
+    why="dist/$1 is a link"
+    return 1
 }
 
 # Names, sizes and times of all that the answer depends on, as one sum, and this machine; nothing if find cannot print them.
@@ -126,11 +138,17 @@ has_sums() {
 
 # Keeps a line for later calls, which write it whole or not at all. Nothing is kept in a checkout that can't be written.
 keep() {
+    local new=
     [ -w "$dist" ] || return 0
-    if ! { mkdir -p "$kept" && echo "$2" >"$kept/$1.$$" && mv -f "$kept/$1.$$" "$kept/$1"; } 2>/dev/null; then
-        rm -f "$kept/$1.$$"
+    if ! { make_kept && new=$(mktemp "$kept/$1.XXXXXX") && echo "$2" >"$new" && chmod 644 "$new" && mv -fT "$new" "$kept/$1"; } 2>/dev/null; then
+        rm -f "$new"
         echo "${0##*/}: dist/out cannot be written, so the sums of dist/ are taken at each call" >&2
     fi
+}
+
+# Makes the folder of what is kept, in which nobody else may write.
+make_kept() {
+    [ ! -L "$kept" ] && mkdir -p "$kept" && chmod 755 "$kept"
 }
 
 # ---- whether the program runs on this machine

@@ -29,7 +29,7 @@ OF_PAGE = ["page/engine/Cargo.toml", "page/entries/t", "rust/library/Cargo.toml"
 SOURCES |= {name: "\n" for name in OF_PAGE}
 # What the tree has of this repository.
 SHARED = ["ti", "ti-path", "install", "gate", "checks", "include", "python", "completions", "docs/ti.1", "docs/ti-path.1", "docs/ti.3",
-          "docs/ti-formats.5", "docs/ti-faults.7", "docs/ti-findings.7", "dist/common.sh", "dist/take", "dist/sources",
+          "docs/ti-formats.5", "docs/ti-faults.7", "docs/ti-findings.7", "dist/common.sh", "dist/manifest.sh", "dist/take", "dist/sources",
           "dist/make", "dist/compare"]
 # Each command in place of another writes its name to the file `called`.
 PROVE = """#!/bin/sh
@@ -130,7 +130,11 @@ class Tree:
         return call if limit is None else ["bash", "-c", f"trap '' XFSZ; ulimit -f {limit}; exec \"$@\"", "bash", *call]
 
     def run(self, command: str, *words: str, has_rt: bool = False, limit: int | None = None, **more: str) -> Ran:
-        done = subprocess.run(self.words(command, words, limit), cwd=self.folder, env=self.environment(has_rt, **more),
+        return self.run_in(self.folder, command, *words, has_rt=has_rt, limit=limit, **more)
+
+    def run_in(self, folder: Path, command: str, *words: str, has_rt: bool = False, limit: int | None = None, **more: str) -> Ran:
+        """Runs a script of the tree in another folder."""
+        done = subprocess.run(self.words(command, words, limit), cwd=folder, env=self.environment(has_rt, **more),
                               stdin=subprocess.DEVNULL, capture_output=True, text=True, errors="replace", check=False)
         return Ran(done.returncode, done.stdout.rstrip("\n"), done.stderr.rstrip("\n"))
 
@@ -145,6 +149,13 @@ class Tree:
         done = subprocess.run([*drop, str(self.folder / command), *words], cwd="/", env=self.environment(False),
                               stdin=subprocess.DEVNULL, capture_output=True, text=True, check=False)
         return Ran(done.returncode, done.stdout.rstrip("\n"), done.stderr.rstrip("\n"))
+
+    def commit(self) -> None:
+        """Makes a repository of the tree, with one commit."""
+        git = ["git", "-C", str(self.folder), "-c", "user.name=a", "-c", "user.email=a@example.org"]
+        (self.folder / ".gitignore").write_text("out/\ncalled\n")
+        for words in [["init", "-q"], ["add", "-A"], ["commit", "-qm", "All"]]:
+            subprocess.run([*git, *words], check=True)
 
     def called(self) -> list[str]:
         """What ./prove was called with since the last question."""

@@ -57,8 +57,8 @@ def variants() -> dict[str, list[str]]:
         code = (ROOT / "crates" / name).read_text()
         if "fn word(" in code and "effect" in name:
             code = code.split("pub fn word(")[1].split("pub fn ")[0]
-        for pattern, word in re.findall(r'((?:\w+::\w+(?: \| )?)+) => (?:Row::of\(\s*)?"([a-z%]+(?:-[a-z]+)*)"', code):
-            found.setdefault(word, []).extend(pattern.split(" | "))
+        for pattern, word in re.findall(r'((?:\w+::\w+(?:\(\w+\))?(?: \| )?)+) => (?:Row::of\(\s*)?"([a-z%]+(?:-[a-z]+)*)"', code):
+            found.setdefault(word, []).extend(re.sub(r"\(\w+\)", "(_)", pattern).split(" | "))
     return found
 
 
@@ -86,6 +86,7 @@ def functions(name: str, about: str, means: str, texts: dict[str, str]) -> list[
     """A function over all findings, after those on tokens and on effects that it calls."""
     rest = f"""        Finding::Token(finding) => token_{name}(finding),
         Finding::Control(effect) => effect_{name}(effect),
+        Finding::OpenLine => effect_{name}(Effect::OpenString),
 """
     return [
         matched(f"token_{name}", "finding", "TokenFinding", "token_word", f"{about} of what is wrong with a token.", means, texts),

@@ -1,34 +1,35 @@
 """The record of refused wrong bodies, edits/record.tsv, and which edits are tried by it.
 
-A line has the name of an edit and the sum of what its verdict rests on, as it was refused; then `in place` if it was tried in its
-place and not in a copy. The sum covers the kit's logic and the scripts that judge too. A line with another sum says nothing, and of two lines
-for one edit none counts, so that a merge may keep the lines of both sides. The line `all` has the version at which all were tried.
+A line has the name of an edit, the sum of what its verdict rests on, as it was refused, and the name of the kit that refused it; then
+`in place` if it was tried in its place and not in a copy. The sum covers the kit's logic, whatever its name, and the scripts that
+judge too. A line with another sum says nothing, and of two lines for one edit none counts, so that a merge may keep the lines of
+both sides. The line `all` has the version at which all were tried, and the kit; `edits/try --all` alone changes it.
+
+A refusal says that the search found no proof, and a kit of another name may search further. So of the lines of other kits more are
+tried again.
 """
 
-from dataclasses import dataclass
+from collections import Counter
+from dataclasses import dataclass, field
 from functools import lru_cache
 from hashlib import sha256
 from inspect import getsource
 
 from bodies import HERE, Edit, Function
-from checks.crates import CRATES, folder_of, kit_folder, words_for
+from checks.crates import CRATES, folder_of, words_for
+from checks.kit import kit_here
 from rests import rests_on, sum_of, whole_of
 
 PATH = HERE / "record.tsv"
 ALL = "all"
 IN_PLACE = "in place"
-# Of so many edits whose lines hold, one is tried all the same.
-ONE_OF = 30
-# Those are drawn from so many crates, since a check of a crate costs more than another edit in it.
-DRAWN_CRATES = 2
 JUDGES = ["bodies.py", "said.py", "trial.py"]
 
 
 @lru_cache(None)
 def judges() -> str:
     """The sum of the kit's logic, of the scripts that judge, and of how these call the prover."""
-    logic = (kit_folder() / "KIT-ID").read_text(encoding="utf-8").strip().split(" logic ")[1]
-    return sum_of([logic, *((HERE / name).read_text(encoding="utf-8") for name in JUDGES), getsource(words_for)])
+    return sum_of([kit_here().logic, *((HERE / name).read_text(encoding="utf-8") for name in JUDGES), getsource(words_for)])
 
 
 def version() -> str:
@@ -39,33 +40,39 @@ def version() -> str:
 
 @dataclass(frozen=True)
 class Refusal:
-    """How an edit was refused: the sum of what that rests on, and whether the edit was made in place."""
+    """How an edit was refused: the sum of what that rests on, the name of the kit, and whether the edit was made in place."""
 
     total: str
+    kit: str
     is_in_place: bool
 
 
 class Record:
-    """The lines of the record, and the version at which all edits were tried: none if that is not known."""
+    """The lines of the record, and the version and the kit with which all edits were tried: none if that is not known."""
 
     def __init__(self) -> None:
         self.refusals: dict[str, Refusal] = {}
-        self.version: str | None = None
+        self.all_tried: list[str] = []
         lines = PATH.read_text(encoding="utf-8").splitlines() if PATH.exists() else []
         rows = [line.split("\t") for line in lines]
-        names = [row[0] for row in rows]
+        counts = Counter(row[0] for row in rows)
         for name, *rest in rows:
-            if names.count(name) == 1 and name == ALL:
-                self.version = rest[0]
-            elif names.count(name) == 1 and rest:
-                self.refusals[name] = Refusal(rest[0], rest[1:] == [IN_PLACE])
+            if counts[name] == 1 and name == ALL:
+                self.all_tried = rest
+            elif counts[name] == 1 and len(rest) > 1:
+                self.refusals[name] = Refusal(rest[0], rest[1], rest[2:] == [IN_PLACE])
 
     def holds(self, label: str, total: str) -> bool:
         return label in self.refusals and self.refusals[label].total == total
 
+    def note(self, label: str, refusal: Refusal) -> None:
+        """Notes a refusal. A line that holds stays, with the kit that it has, so that a run without a change writes no other record."""
+        if not self.holds(label, refusal.total):
+            self.refusals[label] = refusal
+
     def text(self) -> str:
-        rows = [[label, one.total, *([IN_PLACE] if one.is_in_place else [])] for label, one in sorted(self.refusals.items())]
-        head = [[ALL, self.version]] if self.version else []
+        rows = [[label, one.total, one.kit, *([IN_PLACE] if one.is_in_place else [])] for label, one in sorted(self.refusals.items())]
+        head = [[ALL, *self.all_tried]] if self.all_tried else []
         return "".join("\t".join(row) + "\n" for row in [*head, *rows])
 
     def write(self) -> bool:
@@ -81,8 +88,20 @@ def sums_of(edits: list[Edit]) -> dict[str, str]:
     return {edit.label: sum_of([judges(), rests_on(edit.crate, edit)]) for edit in edits}
 
 
-def drawn(held: list[Edit], edits: list[Edit]) -> list[Edit]:
-    """One in so many of the edits whose lines hold, from a few crates, each as likely as it has edits.
+@dataclass(frozen=True)
+class Draw:
+    """Of so many edits whose lines hold, one is tried all the same. Those are drawn from so many crates, since a check of a crate
+    costs more than another edit in it."""
+
+    one_of: int
+    most_crates: int
+
+
+OF_THIS_KIT, OF_OTHER_KITS = Draw(30, 2), Draw(10, 6)
+
+
+def drawn(held: list[Edit], edits: list[Edit], draw: Draw) -> list[Edit]:
+    """Some of the edits whose lines hold, from a few crates, each as likely as it has edits.
 
     What is drawn depends on the crates and all edits alone, so that a second run draws the same.
     """
@@ -92,32 +111,39 @@ def drawn(held: list[Edit], edits: list[Edit]) -> list[Edit]:
         return sha256("\t".join([tree, *words]).encode()).hexdigest()
 
     order = sorted(held, key=lambda edit: place(edit.label))
-    crates = list(dict.fromkeys(edit.crate for edit in order))[:DRAWN_CRATES]
+    crates = list(dict.fromkeys(edit.crate for edit in order))[: draw.most_crates]
     among = sorted((edit for edit in held if edit.crate in crates), key=lambda edit: place("again", edit.label))
-    return among[: -(-len(held) // ONE_OF)]
+    return among[: -(-len(held) // draw.one_of)]
 
 
 @dataclass
 class Choice:
-    """The edits to try, and what the record says: how many hold by it, how many of these are tried again, and which functions
-    are known to be proved in a copy as they stand."""
+    """The edits to try, and what the record says: how many hold by it, how many of these by other kits, how many are tried again,
+    and which functions this kit is known to prove in a copy as they stand."""
 
     tried: list[Edit]
-    held: int
-    again: int
-    shown: set[Function]
+    held: int = 0
+    of_others: int = 0
+    again: int = 0
+    shown: set[Function] = field(default_factory=set)
 
     def closing(self, record: Record) -> str:
-        since = f"all were tried at {record.version}" if record.version else "not all were tried yet"
-        return f"; {self.held} hold by the record, {self.again} of them tried again; {since}"
+        since = f"all were tried at {' with '.join(record.all_tried)}" if record.all_tried else "not all were tried yet"
+        others = f"; {self.of_others} were refused with another kit than {kit_here().name}" if self.of_others else ""
+        return f"; {self.held} hold by the record, {self.again} of them tried again; {since}{others}"
 
 
 def chosen(edits: list[Edit], sums: dict[str, str], record: Record, with_draw: bool) -> Choice:
     """The edits without a line that holds; with a draw, those that are always tried and those drawn from the others as well."""
     held = [edit for edit in edits if record.holds(edit.label, sums[edit.label])]
     new = [edit for edit in edits if edit not in held]
+    of_others = [edit for edit in held if record.refusals[edit.label].kit != kit_here().name]
     always = [edit for edit in held if edit.is_always_tried] if with_draw else []
-    again = drawn([edit for edit in held if not edit.is_always_tried], edits) if with_draw else []
-    shown = {function for edit in held if not record.refusals[edit.label].is_in_place for function in edit.functions}
+    again: list[Edit] = []
+    for draw, is_of_other in [(OF_THIS_KIT, False), (OF_OTHER_KITS, True)]:
+        pool = [edit for edit in held if (edit in of_others) == is_of_other and not edit.is_always_tried]
+        again += drawn(pool, edits, draw) if with_draw else []
+    in_copies = [edit for edit in held if edit not in of_others and not record.refusals[edit.label].is_in_place]
+    shown = {function for edit in in_copies for function in edit.functions}
     shown -= {function for edit in again for function in edit.functions}
-    return Choice([*new, *always, *again], len(held), len(always) + len(again), shown)
+    return Choice([*new, *always, *again], len(held), len(of_others), len(always) + len(again), shown)
