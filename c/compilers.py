@@ -16,13 +16,13 @@ class Compiler:
 
     command: str
     suffix: str
-    standards: tuple[str, str]
+    standards: tuple[str, ...]
     options: tuple[str, ...]
     # Debian's package of its sanitizers, if the test runs under them.
     sanitizers: str | None = None
 
 
-C, CXX = (".c", ("-std=c99", "-std=c11"), ("-std=c11", "-O2")), (".cc", ("-std=c++98", "-std=c++17"), ("-std=c++17", "-x", "c++"))
+C, CXX = (".c", ("-std=c89", "-std=c99", "-std=c11"), ("-std=c11", "-O2")), (".cc", ("-std=c++98", "-std=c++17"), ("-std=c++17", "-x", "c++"))
 COMPILERS = [
     Compiler("gcc", *C, sanitizers="gcc"),
     Compiler("clang", *C, sanitizers="libclang-rt-dev"),

@@ -232,9 +232,24 @@ static uint32_t compile(const unsigned char *bytes, size_t length, size_t *place
     return ti_compile(bytes, length, &compiled, place);
 }
 
+/* Where random numbers come from, and of how many random cases one is tried. TI_DRAW, the seed of a draw, sets both. */
+static uint64_t state = 88172645463325252u;
+static int one_of = 1;
+
+static void draw(void) {
+    const char *seed = getenv("TI_DRAW");
+    if (!seed || !*seed) return;
+    for (const char *at = seed; *at; at++) state = state * 31 + (unsigned char)*at;
+    state |= 1;
+    one_of = 50;
+    printf("c: random cases: one of %d, seed %s\n", one_of, seed);
+}
+
+/* How many of so many random cases are tried. */
+static int some_of(int cases) { return cases / one_of; }
+
 /* Numbers that look random, the same in each run. */
 static uint32_t next_random(void) {
-    static uint64_t state = 88172645463325252u;
     state ^= state << 13;
     state ^= state >> 7;
     state ^= state << 17;
@@ -337,7 +352,7 @@ static void add_random_part(made_text *made, uint32_t tokens, int level) {
 /* Capabilities of random tokens: 100000 expansions of those that are compiled, and the faults of the others. */
 static void test_random_capabilities(int level, const char *words) {
     int same = 1, refused = 1, expansions = 0;
-    while (expansions < 100000) {
+    while (expansions < some_of(100000)) {
         made_text made = {"", 0};
         size_t place = 7;
         add_random_part(&made, next_random() % 40, level);
@@ -453,7 +468,7 @@ static unsigned char *page_end(void) {
 static void test_forged(void) {
     static const char *const texts[] = {"", CUP, "%p1%02x%p2%d", "0123456789012345678901234567890123456789"};
     unsigned char *end = page_end();
-    for (int i = 0; i < 40000; i++) {
+    for (int i = 0; i < some_of(40000); i++) {
         size_t room = next_random() % 40, written = 0, length;
         int32_t numbers[9];
         const char *text = texts[next_random() % 4];
@@ -980,7 +995,7 @@ static void test_view_faults(void) {
 /* Any numbers in a view, over any bytes, are safe: a tool that watches memory sees each read past the end. */
 static void test_any_view(void) {
     unsigned long seed = 1;
-    for (size_t round = 0; round < 20000; round++) {
+    for (size_t round = 0; round < (size_t)some_of(20000); round++) {
         size_t length = round % (sizeof ENTRY + 1);
         unsigned char *bytes = copy_of(ENTRY, length);
         for (size_t i = 0; i < 3 && length != 0; i++) {
@@ -1371,6 +1386,7 @@ static void test_strings(void) {
 }
 
 int main(void) {
+    draw();
     test_expansions();
     test_parameters();
     test_variables();

@@ -87,6 +87,7 @@ class Trial:
         self.goes_well("static library", *compiler, static, self.library / "libti.a")
         self.writes("static tput", CUP, static, *CALL)
         self.refuses("tput of a bad name", 4, "tput: nosuch: NotNamed", static, CALL[0], "nosuch")
+        self.refuses("tput of a word for a number", 2, "tput: parameter 1 of setaf: no 32-bit number", static, CALL[0], "setaf", "red")
         self.refuses("tput of no file", 3, "tput: nosuch: No such file or directory", static, "nosuch", "cup")
         self.refuses("tput of one word", 2, "tput: call it as: tput ENTRY-FILE NAME [PARAM..]", static, "cup")
         (self.scratch / "manual.c").write_text(program_of_manual())
@@ -115,3 +116,5 @@ class Trial:
             self.writes("tput in Python", CUP, sys.executable, "examples/tput.py", *CALL, **places)
             self.refuses("tput.py of a bad name", 4, "tput.py: nosuch: no text has this name", sys.executable,
                          "examples/tput.py", CALL[0], "nosuch", **places)
+            self.refuses("tput.py of a word for a number", 2, "tput.py: parameter 1 of setaf: no 32-bit number", sys.executable,
+                         "examples/tput.py", CALL[0], "setaf", "red", **places)

@@ -113,17 +113,21 @@ _ti_words() {
 # Files, and for a word without a slash names of terminals. A whole name, or the only one, becomes the terminal's file.
 _ti_entry() {
     local -a files
+    local file whole=
     [[ $word && $word != */* ]] || return
     compopt -o filenames
     mapfile -t COMPREPLY < <(compgen -f -- "$word")
-    mapfile -t files < <(ti-path --list "$word" 2>/dev/null)
+    mapfile -t files < <(ti-path --list -- "$word" 2>/dev/null)
+    for file in "${files[@]}"; do
+        [[ ${file##*/} != "$word" ]] || whole=$file
+    done
     if ((${#COMPREPLY[@]} || ${#files[@]} == 0)); then
         COMPREPLY+=("${files[@]##*/}")
     elif ((${#files[@]} == 1)); then
         COMPREPLY=("${files[0]}")
-    elif [[ " ${files[*]##*/} " == *" $word "* ]]; then
+    elif [[ $whole ]]; then
         compopt -o nospace
-        COMPREPLY=("$(ti-path "$word")")
+        COMPREPLY=("$whole")
     else
         COMPREPLY=("${files[@]##*/}")
     fi

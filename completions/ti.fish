@@ -16,7 +16,7 @@ end
 function __ti_entries
     set -l word (commandline -ct | string replace -r '^--entry=' '')
     if string match -qr '^[^/]+$' -- $word
-        ti-path --list $word 2>/dev/null
+        ti-path --list -- $word 2>/dev/null
     end
 end
 

@@ -43,14 +43,17 @@ static void compare(ti_bytes name) {
 int main(int argc, char **argv) {
     ti_bytes name;
     ti_value value, other;
+    uint32_t kind;
+    size_t index;
+    int number;
     if (argc != 3 || !open_file(argv[1], 0) || !open_file(argv[2], 1))
         return 2;
-    for (uint32_t kind = TI_FLAG; kind <= TI_TEXT; kind++)
-        for (size_t index = 0; ti_name(kind, index, &name) == TI_DONE; index++)
+    for (kind = TI_FLAG; kind <= TI_TEXT; kind++)
+        for (index = 0; ti_name(kind, index, &name) == TI_DONE; index++)
             compare(name);
-    for (int number = 0; number < 2; number++)
-        for (uint32_t kind = TI_FLAG; kind <= TI_TEXT; kind++)
-            for (size_t index = 0; ti_view_extended(&views[number], kind, index, &name, &value) == TI_DONE; index++)
+    for (number = 0; number < 2; number++)
+        for (kind = TI_FLAG; kind <= TI_TEXT; kind++)
+            for (index = 0; ti_view_extended(&views[number], kind, index, &name, &value) == TI_DONE; index++)
                 if (number == 0 || !has(0, name, &other))
                     compare(name);
     return 0;

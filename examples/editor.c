@@ -22,12 +22,14 @@ static int fail(int status, const char *what, const char *why) {
 
 /* Sends a text of the entry by its name, with two numbers; nothing if the terminal lacks it. */
 static void send_text(const char *name, int first, int second) {
-    ti_parameter numbers[2] = {ti_number(first), ti_number(second)};
+    ti_parameter numbers[2];
     ti_value value;
     ti_sent sent;
     uint32_t fault;
     if (ti_view_find_name(&view, name, &value) != TI_DONE || value.kind != TI_TEXT || value.number != 0)
         return;
+    numbers[0] = ti_number(first);
+    numbers[1] = ti_number(second);
     fault = ti_send(value.text.bytes, value.text.length, numbers, 2, &terminal, out, sizeof out, &sent);
     if (fault != TI_DONE)
         exit(fail(REFUSED, name, ti_reason(fault)));

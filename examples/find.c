@@ -6,6 +6,7 @@
  *
  *     cc -o find find.c
  */
+#define _POSIX_C_SOURCE 200112L /* for snprintf */
 #include <stdio.h>
 #include <stdlib.h>
 #include <string.h>

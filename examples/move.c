@@ -16,14 +16,17 @@ static int fail(const char *what, const char *why) {
 
 int main(int argc, char **argv) {
     ti_terminal terminal = ti_terminal_at(0);
+    ti_parameter at[2];
     ti_view view;
     ti_bytes cup;
     ti_sent sent;
+    uint32_t fault;
     FILE *input = argc == 4 ? fopen(argv[1], "rb") : NULL;
     if (input == NULL)
         return fail("call it as", "move ENTRY-FILE ROW COLUMN");
-    ti_parameter at[2] = {ti_number((int32_t)strtol(argv[2], NULL, 10)), ti_number((int32_t)strtol(argv[3], NULL, 10))};
-    uint32_t fault = ti_open(file, fread(file, 1, sizeof file, input), &view);
+    at[0] = ti_number((int32_t)strtol(argv[2], NULL, 10));
+    at[1] = ti_number((int32_t)strtol(argv[3], NULL, 10));
+    fault = ti_open(file, fread(file, 1, sizeof file, input), &view);
     if (fault != TI_DONE)
         return fail(argv[1], ti_reason(fault));
     if (ti_view_text(&view, TI_CURSOR_ADDRESS, &cup) != 0)

@@ -11,12 +11,13 @@ static unsigned char file[TI_MOST_BYTES + 1];
 
 int main(int argc, char **argv) {
     ti_view view;
+    uint32_t fault;
     FILE *input = argc == 2 ? fopen(argv[1], "rb") : NULL;
     if (input == NULL)
         return 2;
-    uint32_t fault = ti_open(file, fread(file, 1, sizeof file, input), &view);
+    fault = ti_open(file, fread(file, 1, sizeof file, input), &view);
     if (fault == TI_DONE)
         return 0;
-    printf("%s: byte %zu: %s\n", argv[1], view.counts.place, ti_reason(fault));
+    printf("%s: byte %lu: %s\n", argv[1], (unsigned long)view.counts.place, ti_reason(fault));
     return 1;
 }

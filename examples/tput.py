@@ -1,8 +1,8 @@
 #!/usr/bin/env python3
 """Writes what a text of an entry sends, as tput does: tput.py ENTRY-FILE NAME [PARAM..]
 
-A parameter that is a decimal number of 32 bits is one, any other is a text. The status is 2 for a wrong call, 3 for a file that
-can't be read, and 4 if the entry, its text or the parameters are refused.
+A parameter that the capability takes as a text is one, and another has to be a decimal number of 32 bits. The status is 2 for a
+wrong call, 3 for a file that can't be read, and 4 if the entry, its text or the parameters are refused.
 """
 import re
 import sys
@@ -11,14 +11,16 @@ from typing import NoReturn
 import mogyarsu
 
 
-def parameter(word):
-    is_number = re.fullmatch(r"-?\d+", word) and -(2**31) <= int(word) < 2**31
-    return int(word) if is_number else word
-
-
 def fail(status: int, why: str) -> NoReturn:
     print(f"tput.py: {why}", file=sys.stderr)
     sys.exit(status)
+
+
+def parameter(name, place, word, limits):
+    is_number = re.fullmatch(r"-?[0-9]+", word) and -(2**31) <= int(word) < 2**31
+    if not is_number and place in limits.named - limits.texts:
+        fail(2, f"parameter {place} of {name}: no 32-bit number")
+    return int(word) if is_number and place not in limits.texts else word
 
 
 def main():
@@ -30,8 +32,10 @@ def main():
         text = entry.text(name)
         if text is None:
             fail(4, f"{name}: absent")
+        limits = mogyarsu.check(text)
+        parameters = [parameter(name, place, word, limits) for place, word in enumerate(words, 1)]
         # At the rate 0 padding vanishes.
-        sys.stdout.buffer.write(mogyarsu.send(text, *map(parameter, words)))
+        sys.stdout.buffer.write(mogyarsu.send(text, *parameters))
     except OSError as fault:
         fail(3, f"{path}: {fault.strerror}")
     except KeyError:

@@ -40,6 +40,15 @@
 extern "C" {
 #endif
 
+/* C89 has no inline functions, but its compilers may have them under another name. */
+#if defined(__cplusplus) || (defined(__STDC_VERSION__) && __STDC_VERSION__ >= 199901L)
+#define TI_INLINE static inline
+#elif defined(__GNUC__)
+#define TI_INLINE static __inline__
+#else
+#define TI_INLINE static
+#endif
+
 /* The version of this header; ti_version() returns the version of the library. */
 #define TI_VERSION 0x000300
 
@@ -270,7 +279,7 @@ int8_t ti_view_text(const ti_view *view, size_t index, ti_bytes *text);
  * ti_view_find_name takes the name as a string of C. */
 uint32_t ti_view_find(const ti_view *view, const unsigned char *name, size_t length, ti_value *value);
 
-static inline uint32_t ti_view_find_name(const ti_view *view, const char *name, ti_value *value) {
+TI_INLINE uint32_t ti_view_find_name(const ti_view *view, const char *name, ti_value *value) {
     return ti_view_find(view, (const unsigned char *)name, strlen(name), value);
 }
 
@@ -384,7 +393,7 @@ uint32_t ti_expand_kept_alone(const ti_kept *kept, const int32_t *parameters, si
  *         if (fault == TI_DONE) *written = run.written;
  *         return fault;
  *     } */
-static inline uint32_t ti_expand_kept(const ti_kept *kept, const int32_t *parameters, size_t count, ti_vars *vars,
+TI_INLINE uint32_t ti_expand_kept(const ti_kept *kept, const int32_t *parameters, size_t count, ti_vars *vars,
                                       unsigned char *out, size_t room, size_t *written) {
     return vars != NULL ? ti_expand_kept_over(kept, parameters, count, vars, out, room, written)
                         : ti_expand_kept_alone(kept, parameters, count, out, room, written);
@@ -440,7 +449,7 @@ uint32_t ti_name(uint32_t kind, size_t index, ti_bytes *name);
  * a string of C. */
 uint32_t ti_find(const unsigned char *name, size_t length, uint32_t *kind, size_t *index);
 
-static inline uint32_t ti_find_name(const char *name, uint32_t *kind, size_t *index) {
+TI_INLINE uint32_t ti_find_name(const char *name, uint32_t *kind, size_t *index) {
     return ti_find((const unsigned char *)name, strlen(name), kind, index);
 }
 
@@ -462,7 +471,7 @@ uint32_t ti_word(uint32_t number, ti_bytes *word);
  *     fprintf(stderr, "%s: %s\n", path, ti_reason(fault)); */
 uint32_t ti_message(uint32_t number, ti_bytes *message);
 
-static inline const char *ti_reason(uint32_t number) {
+TI_INLINE const char *ti_reason(uint32_t number) {
     ti_bytes message = {(const unsigned char *)"", 0};
     (void)ti_message(number, &message);
     return (const char *)message.bytes;
@@ -471,13 +480,13 @@ static inline const char *ti_reason(uint32_t number) {
 /* The version of the library: 65536 times its first number, 256 times its second, and its third. For 0.3.0 it is 768. */
 uint32_t ti_version(void);
 
-static inline ti_parameter ti_number(int32_t number) {
+TI_INLINE ti_parameter ti_number(int32_t number) {
     ti_parameter parameter = {{NULL, 0}, 0, 0};
     parameter.number = number;
     return parameter;
 }
 
-static inline ti_parameter ti_text(const void *bytes, size_t length) {
+TI_INLINE ti_parameter ti_text(const void *bytes, size_t length) {
     ti_parameter parameter = {{NULL, 0}, 0, 1};
     parameter.text.bytes = (const unsigned char *)bytes;
     parameter.text.length = length;
@@ -485,14 +494,14 @@ static inline ti_parameter ti_text(const void *bytes, size_t length) {
 }
 
 /* How to pad for a line of this rate, for one affected line, without flow control and with NULs. At the rate 0 marks vanish. */
-static inline ti_padding ti_padding_at(uint32_t rate) {
+TI_INLINE ti_padding ti_padding_at(uint32_t rate) {
     ti_padding padding = {0, 1, 0, 0};
     padding.rate = rate;
     return padding;
 }
 
 /* A terminal whose line has this rate, padded so, and whose variables are 0. */
-static inline ti_terminal ti_terminal_at(uint32_t rate) {
+TI_INLINE ti_terminal ti_terminal_at(uint32_t rate) {
     ti_terminal terminal = {{0, 1, 0, 0}, {{0}}};
     terminal.padding.rate = rate;
     return terminal;

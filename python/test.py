@@ -6,6 +6,7 @@ The last line is 'python: N passed, M failed'.
 import copy
 import os
 import pickle
+import signal
 import subprocess
 import sys
 import threading
@@ -19,6 +20,8 @@ import mogyarsu
 import ti
 
 LINUX = Path("examples/linux").read_bytes()
+# How often what depends on the moment is tried.
+OFTEN = 1000
 passed = failed = 0
 
 
@@ -61,6 +64,7 @@ def test_mapping() -> None:
     expect(entry["am"] is True and entry["colors"] == entry["max_colors"] == 8, "a flag and a number by their names")
     expect("cup" in entry and b"auto_right_margin" in entry and "AX" in entry, "what is in an entry")
     expect("smcup" not in entry and "hc" not in entry and "nosuch" not in entry and 7 not in entry, "what is not")
+    expect("\ud800" not in entry and raises(entry.text, "\ud800"), "a name that has no bytes")
     expect(list(entry)[:2] == ["am", "xenl"] and len(entry) == len(list(entry)) == len(dict(entry)), "iteration and length")
     expect("AX" in list(entry) and all(name in entry for name in entry), "extended names are iterated")
     expect(dict(entry)["it"] == 8 and entry.get("smcup") is None and entry.get("smcup", b"") == b"", "a dict, and get")
@@ -79,15 +83,23 @@ def test_wrong_arguments() -> None:
         (mogyarsu.Entry, [open("examples/linux", "rb")], "data: bytes are wanted, and this is a BufferedReader"),
         (mogyarsu.expand, [None], "capability: bytes are wanted, and this is a NoneType"),
         (mogyarsu.expand, ["cup"], "capability: bytes are wanted, and this is a str"),
-        (mogyarsu.expand, [cup, 1, 2.5], "parameter 2: a str or bytes are wanted, and this is a float"),
-        (mogyarsu.Capability(cup), [1, None], "parameter 2: a str or bytes are wanted, and this is a NoneType"),
+        (mogyarsu.expand, [cup, 1, 2.5], "parameter 2: an int, a str or bytes are wanted, and this is a float"),
+        (mogyarsu.Capability(cup), [1, None], "parameter 2: an int, a str or bytes are wanted, and this is a NoneType"),
         (mogyarsu.pad, [5], "text: bytes are wanted, and this is a int"),
         (mogyarsu.check, [5], "capability: bytes are wanted, and this is a int"),
         (mogyarsu.Entry(LINUX).text, [5], "name: a str or bytes are wanted, and this is a int"),
+        (mogyarsu.send, [cup, "4", 9], "parameter 1: the capability takes an int, and this is a text"),
+        (mogyarsu.expand, [b"%p1%s%p2%d", "a", b"b"], "parameter 2: the capability takes an int, and this is a text"),
+        (mogyarsu.Capability(cup), [4, "9"], "parameter 2: the capability takes an int, and this is a text"),
+        (mogyarsu.Capability(b"%p1%d"), ["abc"], "parameter 1: the capability takes an int, and this is a text"),
+        (lambda: mogyarsu.expand(b"", variables=[0] * 52), [], "variables: Variables are wanted, and this is a list"),
         (mogyarsu.pad, [b"", "slow"], "rate: a number is wanted, and this is a str"),
     ]
     for call, arguments, sentence in wrong:
         expect(says(TypeError, call, *arguments) == sentence, f"{sentence}: {says(TypeError, call, *arguments)}")
+    surrogate = "parameter 1: a surrogate is in it, which has no bytes in UTF-8"
+    expect(says(ValueError, mogyarsu.expand, b"%p1%s", "\ud800") == surrogate, "a surrogate in a text")
+    expect(mogyarsu.expand(b"%p1%s", "\udcff") == b"\xff", "a byte that is not UTF-8")
     range_of = "is not between -2147483648 and 2147483647"
     for call in (mogyarsu.Capability(cup), lambda *words: mogyarsu.expand(cup, *words)):
         expect(says(ValueError, call, 1, 2**31) == f"parameter 2: 2147483648 {range_of}", "a number that does not fit")
@@ -104,13 +116,13 @@ def test_kept() -> None:
     move = mogyarsu.Capability(mogyarsu.Entry(LINUX)["cup"])
     expect(move(4, 9) == b"\x1b[5;10H" and move() == b"\x1b[1;1H" and move(True, -1) == b"\x1b[2;0H", "cup, kept")
     expect(mogyarsu.Capability(b"%p1%s:%p2%d")("a", 3) == b"a:3", "a capability that takes a text")
-    expect(mogyarsu.Capability(b"%p1%d")("abc") == b"0", "a text where a number is taken")
+    expect(mogyarsu.Capability(b"%p2%d")("abc", 7) == b"7", "a text that is not taken")
     expect(mogyarsu.Capability(b"")() == b"" and mogyarsu.Capability(b"a\0b")() == b"a\0b", "no bytes, and a NUL")
     variables, store = mogyarsu.Variables(), mogyarsu.Capability(b"%p1%PA%gA%d")
     expect(store(7, variables=variables) == b"7" and variables.values[26] == 7 and store(8) == b"8", "variables")
     expect(move.marked is False and mogyarsu.Capability(b"$<5>").marked is True, "marks")
     expect(pickle.loads(pickle.dumps(move))(0, 0) == b"\x1b[1;1H", "a copy")
-    wrong = []
+    wrong: list[int] = []
 
     def many(row: int) -> None:
         wrong.extend(column for column in range(2000) if move(row, column) != b"\x1b[%d;%dH" % (row + 1, column + 1))
@@ -121,6 +133,72 @@ def test_kept() -> None:
     for thread in threads:
         thread.join()
     expect(not wrong, f"threads that share one: {wrong[:9]}")
+
+
+def test_read_only() -> None:
+    """What the library points into cannot be replaced by a public name."""
+    move, entry = mogyarsu.Capability(mogyarsu.Entry(LINUX)["cup"]), mogyarsu.Entry(LINUX)
+    for one, name in [(move, "bytes"), (move, "marked"), (entry, "names"), (entry, "number_bits")]:
+        expect(says(AttributeError, setattr, one, name, b"") is not None, f"{name} is written")
+        expect(says(AttributeError, delattr, one, name) is not None, f"{name} is deleted")
+    for one, data in [(move, b"%p1%d"), (entry, Path("examples/vt100").read_bytes())]:
+        says(TypeError, one.__init__, data)
+    expect(move(4, 9) == b"\x1b[5;10H" and entry.names[0] == b"linux" and entry["colors"] == 8, "what was made is made anew")
+
+
+def in_threads(count: int, call) -> None:
+    threads = [threading.Thread(target=call) for _ in range(count)]
+    for thread in threads:
+        thread.start()
+    for thread in threads:
+        thread.join()
+
+
+def test_first_iteration() -> None:
+    """Threads that are the first to iterate over an entry see all of it, and an interrupted one leaves it whole."""
+    due, seen = list(mogyarsu.Entry(LINUX)), []
+    patience = sys.getswitchinterval()
+    sys.setswitchinterval(1e-6)
+    for _ in range(OFTEN):
+        entry, barrier = mogyarsu.Entry(LINUX), threading.Barrier(4)
+
+        def look(entry=entry, barrier=barrier) -> None:
+            barrier.wait()
+            try:
+                seen.append(list(entry))
+            except RuntimeError as fault:
+                seen.append([str(fault)])
+
+        in_threads(4, look)
+    sys.setswitchinterval(patience)
+    wrong = sum(names != due for names in seen)
+    expect(wrong == 0 and len(seen) == 4 * OFTEN, f"{wrong} of {len(seen)} threads see another entry")
+    wrong = sum(is_cut_by_interrupt(due, 2e-5 + place * 1e-6) for place in range(OFTEN))
+    expect(wrong == 0, f"{wrong} of {OFTEN} entries are cut by an interrupt")
+
+
+class Interrupt(Exception):
+    """What the handler of a signal raises."""
+
+
+def is_cut_by_interrupt(due: list[str], seconds: float) -> bool:
+    """Whether an entry lacks something after its first iteration was interrupted after so many seconds."""
+
+    def interrupt(*_) -> None:
+        raise Interrupt
+
+    entry, before = mogyarsu.Entry(LINUX), signal.signal(signal.SIGALRM, interrupt)
+    try:
+        signal.setitimer(signal.ITIMER_REAL, seconds)
+        list(entry)
+    except Interrupt:
+        pass
+    try:
+        signal.setitimer(signal.ITIMER_REAL, 0)
+    except Interrupt:
+        pass
+    signal.signal(signal.SIGALRM, before)
+    return list(entry) != due
 
 
 def test_send() -> None:
@@ -177,7 +255,7 @@ def test_former_name() -> None:
     expect(ti.Entry is mogyarsu.Entry and ti.expand is mogyarsu.expand and ti.__version__ == mogyarsu.__version__, "ti")
 
 
-for test in (test_mapping, test_wrong_arguments, test_kept, test_send, test_entry, test_expand, test_check_and_pad, test_version,
+for test in (test_mapping, test_wrong_arguments, test_kept, test_read_only, test_first_iteration, test_send, test_entry, test_expand, test_check_and_pad, test_version,
              test_former_name):
     test()
 print(f"python: {passed} passed, {failed} failed")

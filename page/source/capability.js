@@ -1,12 +1,12 @@
 // One capability: its text with what is wrong in it, its parameters, what its output does, and its trace.
 
 import { counted, make } from "./dom.js";
-import { get, trace } from "./engine.js";
-import { numberOf, valueOf } from "./entry.js";
+import { sent, trace } from "./engine.js";
+import { bytesOfText, longNameOf, numberOf, valueOf } from "./entry.js";
 import { faultCard, findingCard } from "./finding.js";
 import { ParameterFields } from "./fields.js";
 import { drawText, markTokens } from "./text.js";
-import { parametersOf } from "./parameters.js";
+import { parametersOf, valueOfField } from "./parameters.js";
 import { colorAt, isDrawable, paletteKind, picture, sentColors, showPalette, showSample, showScreen } from "./pictures.js";
 import { effectOf, placeAfter } from "./sequences.js";
 import { TraceView } from "./trace.js";
@@ -16,9 +16,9 @@ const PALETTES = ["setaf", "setab", "setf", "setb"];
 // The most bytes that are shown in hex.
 const MOST_PAIRS = 64;
 
-/** The trace of a text: its rows and their sums, how many more rows there are, or the fault. The sums come last. */
-function traceOf(entry, item, values) {
-  const { rows, more, fault } = trace(entry.bytes, item.name, values);
+/** The trace of a text, by its bytes: its rows and their sums, how many more rows there are, or the fault. The sums come last. */
+function traceOf(text, values) {
+  const { rows, more, fault } = trace(text, values);
   const tokens = rows.filter((row) => row.token !== undefined);
   return { rows: tokens, totals: rows.find((row) => row.token === undefined), more: Math.max(more - 1, 0), fault };
 }
@@ -35,21 +35,25 @@ export class CapabilityPanel {
   show(entry, item, given = []) {
     Object.assign(this, { entry, item, values: [], parameters: [], pictures: {}, palette: undefined, elements: [] });
     if (!item) return this.root.replaceChildren(make("p", { class: "soft" }, "The entry has no capability."));
-    this.root.replaceChildren(...this.head());
+    this.kind = make("p", { class: "soft kind" });
+    const longName = longNameOf(item);
+    const head = [this.kind, make("h2", {}, item.name), ...(longName ? [make("p", { class: "soft mono" }, longName)] : [])];
+    this.root.replaceChildren(...head);
+    this.showKind();
     this.root.scrollTop = 0;
     if (item.kind === "text" && item.value !== undefined) this.showText(given);
     else this.root.append(make("p", { class: "text" }, valueOf(item)), ...this.cards());
     return undefined;
   }
 
-  head() {
+  /** Shows the kind, and the limits of a trace: the bound is that for the texts that are given. */
+  showKind({ depth, bound } = {}) {
     const { item } = this;
-    const { depth, bound } = item.verdict ?? {};
     const words = [`${KINDS[item.kind]}${item.own ? ", user-defined" : ""}`];
     if (bound !== undefined && item.value.includes("%")) {
       words.push(`writes at most ${counted(bound, "byte")}`, `has at most ${counted(depth, "value")} on its stack`);
     }
-    return [make("p", { class: "soft kind" }, words.join(" · ")), make("h2", {}, item.name)];
+    this.kind.textContent = words.join(" · ");
   }
 
   cards() {
@@ -61,15 +65,17 @@ export class CapabilityPanel {
   }
 
   showText(given) {
-    const first = traceOf(this.entry, this.item, given);
+    this.sent = bytesOfText(this.item);
+    const first = traceOf(this.sent, []);
     this.parameters = parametersOf(this.item.name, first.rows.map((row) => row.token));
-    this.values = this.parameters.map((parameter, place) => given[place] ?? parameter.first);
+    const valueAt = (parameter, place) => (given[place] === undefined ? undefined : valueOfField(parameter, String(given[place])));
+    this.values = this.parameters.map((parameter, place) => valueAt(parameter, place) ?? parameter.first);
     this.text = make("div");
     this.work = make("div", { class: "work" });
     this.figure = make("section", { class: "figure", "aria-label": "What the output does" });
     this.root.append(this.text, ...this.cards(), this.work);
     if (this.parameters.length) {
-      this.fields = new ParameterFields(this.parameters, this.values, (place, value) => this.setValue(place, value));
+      this.fields = new ParameterFields(this.item.name, this.parameters, this.values, (place, value) => this.setValue(place, value));
       this.work.append(this.fields.element);
     }
     this.work.append(this.figure);
@@ -84,7 +90,8 @@ export class CapabilityPanel {
 
   /** Runs the text over the values, and shows what came of it. */
   refresh(keepsStep) {
-    const made = traceOf(this.entry, this.item, this.values);
+    const made = traceOf(this.sent, this.values);
+    this.showKind(made.totals);
     const drawn = drawText(this.item.value, made.rows, this.places());
     this.elements = drawn.elements;
     this.rows = made.rows;
@@ -127,7 +134,7 @@ export class CapabilityPanel {
   // ---- the picture
 
   effectFor(values) {
-    const bytes = get(this.entry.bytes, this.item.name, values);
+    const bytes = sent(this.sent, values);
     return bytes && effectOf(bytes);
   }
 

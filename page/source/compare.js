@@ -2,7 +2,7 @@
 
 import { counted, make } from "./dom.js";
 import { diff } from "./engine.js";
-import { entryOptions, watchPicker } from "./files.js";
+import { entryOptions, showOpen, watchPicker } from "./files.js";
 import { shortened } from "./notation.js";
 
 // The most characters of a value, and of a name.
@@ -76,15 +76,14 @@ export class CompareView {
   show(entry, other) {
     this.entry = entry;
     this.other = other;
-    this.select.value = other.builtIn ?? "";
+    showOpen(this.select, other);
     this.draw();
   }
 
   draw() {
     if (!this.other || this.root.hidden) return;
-    const fault = this.entry.fault ?? this.other.fault;
-    const { rows, more } = fault ? { rows: [], more: 0 } : diff(this.entry.bytes, this.other.bytes, this.byTokens.checked);
-    this.count.textContent = fault ?? sumOf(rows.length, more);
+    const { rows, more } = diff(this.entry.bytes, this.other.bytes, this.byTokens.checked);
+    this.count.textContent = sumOf(rows.length, more);
     this.table.replaceChildren(...(rows.length ? [this.tableOf(rows)] : []));
   }
 

@@ -35,11 +35,11 @@ function bytesIn(exports, slot) {
   return new Uint8Array(exports.memory.buffer, exports.place(slot), exports.length(slot));
 }
 
-function call(exports, { words, input, file, take }) {
+function call(exports, { words, input, file, take, isForPerson }) {
   put(exports, SLOT.words, encoder.encode(words.join("\0")));
   put(exports, SLOT.input, input);
   put(exports, SLOT.file, file);
-  const status = exports.run();
+  const status = exports.run(isForPerson ? 1 : 0);
   const outcome = { status, output: take(bytesIn(exports, SLOT.output)), errors: decoder.decode(bytesIn(exports, SLOT.errors)).trimEnd() };
   exports.clear();
   return outcome;
@@ -62,6 +62,14 @@ export function run(words, input, file = NOTHING, take = (bytes) => bytes.slice(
   }
 }
 
+/** The lines on the fault of a file that is no entry, as the program writes them at a terminal. */
+export function faultOfFile(name, bytes) {
+  const place = name.startsWith("-") ? `./${name}` : name;
+  return call(new WebAssembly.Instance(compiled).exports, {
+    words: ["show", place], input: NOTHING, file: bytes, take: () => undefined, isForPerson: true,
+  }).errors;
+}
+
 /** How many bytes the module has. */
 export function memoryInUse() {
   return instance?.exports.memory.buffer.byteLength ?? 0;
@@ -77,17 +85,31 @@ const parameterWords = (values) => values.map((value) => (typeof value === "numb
 
 export const show = (entry) => readDocument(["show", "--json"], entry);
 export const check = (entry) => readDocument(["check", "--json"], entry);
-export const lint = (entry) => readDocument(["lint", "--json"], entry);
-export const trace = (entry, name, values) => readDocument(["trace", "--json", "--of", name, "--", ...parameterWords(values)], entry);
+export const lint = (entry, options) => readDocument(["lint", "--json", ...options], entry);
+
+/** The trace of a text, given by its bytes: its name can be one that the command line has no word for, or that two texts have. */
+export const trace = (text, values) => readDocument(["trace", "--json", "--", ...parameterWords(values)], text);
 
 /** What the entry has and `other` has not alike; with `byTokens` only what expands otherwise. */
 export function diff(entry, other, byTokens) {
   return readDocument(["diff", "--json", ...(byTokens ? ["--expand"] : []), "-", "other"], entry, other);
 }
 
+// The name of the only capability in the entry below.
+const ONLY = "p";
+
+/** An entry whose only capability is this text, as one of its own (term(5), "extended storage format"). */
+function entryOf(text) {
+  const names = [ONLY.charCodeAt(0), 0];
+  const words = (...numbers) => numbers.flatMap((number) => [number & 255, number >> 8]);
+  const head = [...words(0o432, names.length, 0, 0, 0, 0), ...names];
+  const own = [...words(0, 0, 1, 2, text.length + 1 + names.length), ...words(0, 0)];
+  return Uint8Array.from([...head, ...own, ...text, 0, ...names]);
+}
+
 /** The bytes that a text sends for these values, without its delays; or undefined if there is a fault. */
-export function get(entry, name, values) {
-  const { status, output } = run(["get", "--", name, ...parameterWords(values)], entry);
+export function sent(text, values) {
+  const { status, output } = run(["get", "--", ONLY, ...parameterWords(values)], entryOf(text));
   return status ? undefined : output;
 }
 

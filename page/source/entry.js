@@ -1,6 +1,7 @@
 // An entry that is read: its capabilities, and what is wrong with each.
 
-import { check, lint, show } from "./engine.js";
+import { LONG_NAMES } from "./data.js";
+import { check, faultOfFile, lint, show } from "./engine.js";
 
 /** The most bytes that a file may have, one more than any entry. */
 export const MOST_BYTES = 32769;
@@ -38,18 +39,27 @@ function addFindings(items, findings) {
   }
 }
 
-/** Reads an entry. `builtIn` is its name if it came with the page. If it is refused, there is only the fault. */
-export function readEntry(bytes, builtIn) {
+/** The bytes of a text. */
+export function bytesOfText({ hex }) {
+  return Uint8Array.from(hex.match(/../g) ?? [], (pair) => Number.parseInt(pair, 16));
+}
+
+/**
+ * Reads an entry. `builtIn` is its name if it came with the page, `file` that of its file if it was opened, and `options` are those of
+ * `lint`. If it is refused, there is only the fault.
+ */
+export function readEntry(bytes, { builtIn, file, options = [] }) {
   const shown = show(bytes);
-  if (shown.fault) return { bytes, builtIn, fault: shown.fault, items: [], findings: [], more: 0 };
+  if (shown.fault) return { fault: file === undefined ? shown.fault : faultOfFile(file, bytes) || shown.fault };
   const heads = shown.rows.filter((row) => row.name === undefined);
   const items = shown.rows.filter((row) => row.name !== undefined).map((row) => ({ ...row, findings: [] }));
-  const found = lint(bytes);
+  const found = lint(bytes, options);
   addVerdicts(items, check(bytes).rows);
   addFindings(items, found.rows);
   return {
     bytes,
     builtIn,
+    file,
     items,
     more: shown.more,
     names: heads.find((row) => row.kind === "names")?.value ?? "",
@@ -63,6 +73,11 @@ export function readEntry(bytes, builtIn) {
 export function numberOf(entry, name, otherwise) {
   const item = entry.items.find((candidate) => candidate.name === name && candidate.kind === "number");
   return Number.isInteger(item?.value) ? item.value : otherwise;
+}
+
+/** The long name of a capability by terminfo(5), or nothing if the entry names it itself. */
+export function longNameOf(item) {
+  return !item.own && Object.hasOwn(LONG_NAMES, item.name) ? LONG_NAMES[item.name] : "";
 }
 
 /** What a capability has, in words. */

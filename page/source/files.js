@@ -3,15 +3,25 @@
 import { byId, make } from "./dom.js";
 import { convert } from "./engine.js";
 import { MOST_BYTES } from "./entry.js";
+import { shortened } from "./notation.js";
+
+// The most characters of the name of a file.
+const MOST_NAME = 40;
 
 /** The bytes of a file, of which no more are read than tell that it is too long. */
 export async function bytesOfFile(file) {
   return new Uint8Array(await file.slice(0, MOST_BYTES).arrayBuffer());
 }
 
-/** The options of a list of entries: those that came with the page, and one that is shown while a file is open. */
+/** The options of a list of entries: those that came with the page, and one that has the name of a file while that is open. */
 export function entryOptions(names) {
   return [...names.map((name) => make("option", { value: name }, name)), make("option", { value: "", hidden: true }, "opened file")];
+}
+
+/** Shows in a list of entries which one is open. */
+export function showOpen(list, { builtIn, file }) {
+  list.lastElementChild.textContent = shortened(file ?? "opened file", MOST_NAME);
+  list.value = builtIn ?? "";
 }
 
 /** Hands a file over that the user picked, and lets the same one be picked again. */
@@ -22,8 +32,8 @@ export function watchPicker(input, onFile) {
   });
 }
 
-/** Takes files that are dropped: on the left half with `onFirst`, on the right half with `onOther`. Two at once are both. */
-export function watchDrops(onFirst, onOther) {
+/** Takes files that are dropped: on the left half as the first for `onFiles`, on the right half as the second, and two at once as both. */
+export function watchDrops(onFiles) {
   const zone = byId("drop");
   const isOther = (event) => event.clientX > window.innerWidth / 2;
   addEventListener("dragover", (event) => {
@@ -39,8 +49,8 @@ export function watchDrops(onFirst, onOther) {
     event.preventDefault();
     zone.hidden = true;
     const [first, second] = event.dataTransfer.files;
-    if (second) return onFirst(first).then(() => onOther(second));
-    return first && (isOther(event) ? onOther(first) : onFirst(first));
+    if (second || !isOther(event)) onFiles(first, second);
+    else onFiles(undefined, first);
   });
 }
 

@@ -16,9 +16,10 @@ function adviceOn(word) {
   return advice ? [make("p", { class: "advice" }, advice)] : [];
 }
 
-/** A card on one finding. */
-export function findingCard({ finding, meaning }) {
-  return make("div", { class: "card" }, make("p", {}, make("b", {}, finding), " ", meaning), ...adviceOn(finding));
+/** A card on one finding, with what to do. */
+export function findingCard({ finding, meaning, fix }) {
+  const remedy = fix ? make("p", { class: "fix" }, `do: ${fix}`) : undefined;
+  return make("div", { class: "card" }, make("p", {}, make("b", {}, finding), " ", meaning), remedy, ...adviceOn(finding));
 }
 
 /** A card on a text that is no valid output string. */

@@ -1,7 +1,7 @@
 // The list of capabilities, with its search and its filters.
 
 import { byId, counted, make } from "./dom.js";
-import { valueOf } from "./entry.js";
+import { longNameOf, valueOf } from "./entry.js";
 import { shortened } from "./notation.js";
 
 // The most characters of a value in a row, and of a name.
@@ -46,7 +46,7 @@ export class CapabilityList {
     const sought = byId("search").value.toLowerCase();
     const filter = FILTERS[document.querySelector("input[name=filter]:checked").value];
     const { items, more } = this.entry;
-    this.shown = items.filter((item) => filter(item) && `${item.name} ${valueOf(item)}`.toLowerCase().includes(sought));
+    this.shown = items.filter((item) => filter(item) && `${item.name} ${longNameOf(item)} ${valueOf(item)}`.toLowerCase().includes(sought));
     this.list.replaceChildren(...this.shown.map((item, place) => rowOf(item, place, () => this.onChoose(item))));
     byId("count").textContent = this.counts(items.length, more);
     this.mark(this.chosen);

@@ -46,8 +46,9 @@ export function parametersOf(name, tokens) {
   });
 }
 
-/** The value of what was typed: a number of 32 bits, or else a text. */
-export function valueOfField(text) {
-  const number = /^[-+]?\d{1,10}$/.test(text) ? Number(text) : NaN;
-  return Number.isInteger(number) && number === (number | 0) ? number : text.replaceAll("\0", "");
+/** The value of what was typed for a parameter: a text, or a number of 32 bits; undefined if it is none. */
+export function valueOfField({ role }, typed) {
+  if (role === "text") return typed.replaceAll("\0", "");
+  const number = /^-?\d+$/.test(typed) ? Number(typed) : NaN;
+  return number === (number | 0) ? number | 0 : undefined;
 }

@@ -77,6 +77,8 @@ class _Counts(Structure):
 class _View(Structure):
     _fields_ = [("counts", _Counts), ("bytes", _Bytes), ("base", c_size_t)]
     counts: _Counts
+    # The bytes into which it points, and which live as long.
+    data: bytes
 
 
 class _Value(Structure):
@@ -129,6 +131,8 @@ class _Kept(Structure):
         ("bytes", _Bytes), ("bound", c_uint64), ("count", c_uint32), ("marked", c_uint16), ("varied", c_uint16),
         ("steps", c_uint64 * 96),
     ]
+    # The bytes into which it points, and which live as long.
+    data: bytes
     bound: int
     marked: int
     varied: int
@@ -192,6 +196,7 @@ def _within(argument: str, value: int, least: int, most: int) -> int:
     """A number for C, which would be cut to its lowest bits if it did not fit."""
     if not isinstance(value, int):
         raise TypeError(f"{argument}: a number is wanted, and this is a {type(value).__name__}")
+    value = int.__index__(value)
     if not least <= value <= most:
         raise ValueError(f"{argument}: {value} is not between {least} and {most}")
     return value
@@ -200,17 +205,21 @@ def _within(argument: str, value: int, least: int, most: int) -> int:
 def _bytes_of(argument: str, value: Text) -> bytes:
     """The bytes of an argument, which is no str and no number."""
     if isinstance(value, (bytes, bytearray, memoryview)):
-        return bytes(value)
+        # What a class says of the length of its bytes does not count.
+        return memoryview(value).tobytes()
     raise TypeError(f"{argument}: bytes are wanted, and this is a {type(value).__name__}")
 
 
-def _text_of(argument: str, value: str | Text) -> bytes:
+def _text_of(argument: str, value: str | Text, wanted: str = "a str or bytes are") -> bytes:
     """The bytes of a name or of a text among parameters; those of a str are UTF-8, as Python has the names of files."""
-    if isinstance(value, str):
-        return value.encode("utf-8", "surrogateescape")
     if isinstance(value, (bytes, bytearray, memoryview)):
-        return bytes(value)
-    raise TypeError(f"{argument}: a str or bytes are wanted, and this is a {type(value).__name__}")
+        return _bytes_of(argument, value)
+    if not isinstance(value, str):
+        raise TypeError(f"{argument}: {wanted} wanted, and this is a {type(value).__name__}")
+    try:
+        return str.encode(value, "utf-8", "surrogateescape")
+    except UnicodeEncodeError:
+        raise ValueError(f"{argument}: a surrogate is in it, which has no bytes in UTF-8") from None
 
 
 # ---- entries
@@ -223,16 +232,28 @@ class Entry(Mapping[str, Any]):
     can be a long one, and bytes. The methods flag, number and text have the type of one kind, for who checks types.
     """
 
-    def __init__(self, data: Text) -> None:
-        # The view has pointers into these bytes.
-        self._data, self._view = _bytes_of("data", data), _View()
-        self._items: dict[str, Value] | None = None
-        if fault := _library.ti_open(self._data, len(self._data), byref(self._view)):
-            raise Fault("data", fault, self._view.counts.place)
-        self.names: list[bytes] = self._view.counts.names.copy().split(b"|")
+    _view: _View
+    _items: dict[str, Value] | None
+
+    # It is whole before anyone has it, and never read anew.
+    def __new__(cls, data: Text) -> "Entry":
+        view = _View()
+        view.data = _bytes_of("data", data)
+        if fault := _library.ti_open(view.data, len(view.data), byref(view)):
+            raise Fault("data", fault, view.counts.place)
+        entry = super().__new__(cls)
+        entry._view, entry._items = view, None
+        return entry
+
+    @property
+    def names(self) -> list[bytes]:
         """The names of the terminal, the last of which describes it."""
-        self.number_bits: int = self._view.counts.number_bits
+        return self._view.counts.names.copy().split(b"|")
+
+    @property
+    def number_bits(self) -> int:
         """How wide the numbers are in the file: 16 or 32."""
+        return self._view.counts.number_bits
 
     @classmethod
     def from_path(cls, path: str | PathLike[str]) -> "Entry":
@@ -242,21 +263,25 @@ class Entry(Mapping[str, Any]):
 
     def _found(self, name: str | bytes) -> _Value:
         """What the entry says of the capability with a name."""
-        word, value = _text_of("name", name), _Value()
+        try:
+            word, value = _text_of("name", name), _Value()
+        except ValueError:
+            raise KeyError(f"{name!r}: no capability has this name") from None
         if _library.ti_view_find(byref(self._view), word, len(word), byref(value)):
             raise KeyError(f"{name!r}: no capability has this name")
         return value
 
     def _all(self) -> dict[str, Value]:
-        """What the terminal has, by short names, found once."""
+        """What the terminal has, by short names, found once. Others see it when it is whole."""
         if self._items is None:
-            self._items = {}
+            items: dict[str, Value] = {}
             name, extended, value, place = _Bytes(), c_uint32(), _Value(), 0
             while _library.ti_view_item(byref(self._view), place, byref(name), byref(extended), byref(value)) == DONE:
                 held = value.held()
                 if held is not None and name.length:
-                    self._items.setdefault(name.copy().decode("utf-8", "surrogateescape"), held)
+                    items.setdefault(name.copy().decode("utf-8", "surrogateescape"), held)
                 place += 1
+            self._items = items
         return self._items
 
     def __getitem__(self, name: str | bytes) -> Any:
@@ -284,7 +309,7 @@ class Entry(Mapping[str, Any]):
         return f"<Entry {b'|'.join(self.names).decode('utf-8', 'backslashreplace')!r}, {len(self)} capabilities>"
 
     def __reduce__(self) -> tuple[type["Entry"], tuple[bytes]]:
-        return Entry, (self._data,)
+        return Entry, (self._view.data,)
 
     def _of_kind(self, kind: int, name: bytes | str) -> _Value:
         value = self._found(name)
@@ -358,7 +383,18 @@ def check(capability: Text, longest_text: int = 0) -> Limits:
     return Limits(limits.depth, limits.nest, limits.bound, _numbers(limits.named), _numbers(limits.texts))
 
 
-def _given(parameters: tuple[Parameter, ...]) -> tuple[Array[_Parameter], list[bytes]]:
+def _refuse_texts(capability: bytes, texts: list[int]) -> None:
+    """Raises TypeError if the capability takes one of these parameters, which are texts, only as a number."""
+    limits = _Limits()
+    if _library.ti_check(capability, len(capability), 0, byref(limits)):
+        # The fault is that of the call that follows.
+        return
+    for place in texts:
+        if place in _numbers(limits.named) - _numbers(limits.texts):
+            raise TypeError(f"parameter {place}: the capability takes an int, and this is a text")
+
+
+def _given(capability: bytes, parameters: tuple[Parameter, ...]) -> tuple[Array[_Parameter], list[bytes]]:
     """The parameters for C, and the texts into which they point."""
     given, texts = (_Parameter * len(parameters))(), []
     for place, value in enumerate(parameters, 1):
@@ -366,14 +402,18 @@ def _given(parameters: tuple[Parameter, ...]) -> tuple[Array[_Parameter], list[b
         if isinstance(value, int):
             one.number = _within(f"parameter {place}", value, -(2**31), 2**31 - 1)
         else:
-            texts.append(_text_of(f"parameter {place}", value))
+            texts.append(_text_of(f"parameter {place}", value, "an int, a str or bytes are"))
             one.text.address, one.text.length, one.is_text = cast(c_char_p(texts[-1]), c_void_p).value, len(texts[-1]), 1
+    if texts:
+        _refuse_texts(capability, [place for place, one in enumerate(given, 1) if one.is_text])
     return given, texts
 
 
 def _variables_for(variables: Variables | None) -> _Variables:
     if variables is None:
         return _Variables()
+    if not isinstance(variables, Variables):
+        raise TypeError(f"variables: Variables are wanted, and this is a {type(variables).__name__}")
     if len(variables.values) != 52:
         raise ValueError(f"variables: there are {len(variables.values)} values, and 52 are wanted")
     return _Variables((c_int32 * 52)(*(_within("variables", value, -(2**31), 2**31 - 1) for value in variables.values)))
@@ -398,11 +438,12 @@ def expand(capability: Text, *parameters: Parameter, variables: Variables | None
     """The output of a capability for up to nine parameters, each a number of 32 bits or a text. Padding marks are still in it; what a
     terminal gets, send returns.
 
-    Raises Fault if the bytes are no capability, there are more parameters, or a text is longer than 32767 bytes, and ValueError
-    if a number does not have 32 bits. Then the variables are as before.
+    Raises Fault if the bytes are no capability, there are more parameters, or a text is longer than 32767 bytes, ValueError if a
+    number does not have 32 bits, and TypeError if a parameter is a text that the capability takes as a number. Then the variables
+    are as before.
     """
     bytes_ = _bytes_of("capability", capability)
-    given, _texts = _given(parameters)
+    given, _texts = _given(bytes_, parameters)
     kept, run, room = _variables_for(variables), _Run(), 256
     while True:
         out = create_string_buffer(room)
@@ -430,7 +471,7 @@ def send(
 ) -> bytes:
     """What a terminal gets: the output of a capability, as expand has it, with each padding mark as pad has it."""
     bytes_ = _bytes_of("capability", capability)
-    given, _texts = _given(parameters)
+    given, _texts = _given(bytes_, parameters)
     terminal = _Terminal(_padding(rate, affected_lines, xon, pad_byte), _variables_for(variables))
     sent, room = _Sent(), 256
     while True:
@@ -472,6 +513,10 @@ _COUNTS = [c_size_t.from_param(count) for count in range(MOST_PARAMETERS + 1)]
 _expand_kept: Any = _library["ti_expand_kept_alone"]
 
 
+# The type bytes, also in a class that has something else of this name.
+_Data = bytes
+
+
 class _Room:
     """What one expansion of a kept capability writes: the numbers that it takes, its output, and how long that is."""
 
@@ -488,24 +533,36 @@ class Capability:
     """A capability that is compiled once, for what is sent often. Called with its parameters, it returns what expand does; padding
     marks are still in it. Raises Fault if the bytes are no capability."""
 
-    __slots__ = ("_free", "_kept", "bytes", "marked")
+    __slots__ = ("_data", "_free", "_kept")
+    _data: "_Data"
+    _free: list[_Room]
+    _kept: _Kept | None
 
-    def __init__(self, capability: Text) -> None:
-        self.bytes: bytes = _bytes_of("capability", capability)
-        """The capability."""
+    # It is whole before anyone has it, and never compiled anew.
+    def __new__(cls, capability: Text) -> "Capability":
         kept, place = _Kept(), c_size_t()
-        fault = _library.ti_compile(self.bytes, len(self.bytes), byref(kept), byref(place))
+        kept.data = _bytes_of("capability", capability)
+        fault = _library.ti_compile(kept.data, len(kept.data), byref(kept), byref(place))
         if 100 < fault < 200:
             raise Fault("capability", fault, place.value)
+        made = super().__new__(cls)
         # One that takes a text, has variables, or needs more than is kept, is expanded anew at each call.
-        self._kept: _Kept | None = None if fault or kept.varied else kept
-        self._free: list[_Room] = []
-        self.marked: bool = b"$<" in self.bytes
-        """Whether padding marks can start in it."""
+        made._data, made._free, made._kept = kept.data, [], None if fault or kept.varied else kept
+        return made
 
-    def __call__(self, *parameters: Parameter, variables: Variables | None = None) -> bytes:
+    @property
+    def bytes(self) -> "_Data":
+        """The capability."""
+        return self._data
+
+    @property
+    def marked(self) -> bool:
+        """Whether padding marks can start in it."""
+        return b"$<" in self._data
+
+    def __call__(self, *parameters: Parameter, variables: Variables | None = None) -> "_Data":
         if self._kept is None:
-            return expand(self.bytes, *parameters, variables=variables)
+            return expand(self._data, *parameters, variables=variables)
         # While a call lasts its room is its own, so that no two threads write into one.
         try:
             room = self._free.pop()
@@ -516,17 +573,17 @@ class Capability:
             _LAYOUTS[count].pack_into(room.numbers, 0, *parameters)
         except (StructError, IndexError):
             # There is a text, or what is no parameter, or too many: this finds out.
-            return expand(self.bytes, *parameters)
+            return expand(self._data, *parameters)
         _expand_kept(*room.arguments[count])
-        output: bytes = room.out[: room.written.value]
+        output: _Data = room.out[: room.written.value]
         self._free.append(room)
         return output
 
     def __repr__(self) -> str:
-        return f"Capability({self.bytes!r})"
+        return f"Capability({self._data!r})"
 
-    def __reduce__(self) -> "tuple[type[Capability], tuple[bytes]]":
-        return Capability, (self.bytes,)
+    def __reduce__(self) -> "tuple[type[Capability], tuple[_Data]]":
+        return Capability, (self._data,)
 
 
 def version() -> tuple[int, int, int]:

@@ -35,16 +35,17 @@ pub extern "C" fn room(slot: usize, count: usize) -> *mut u8 {
 }
 
 /// Runs the program over what the first three slots have, which are empty then, and returns its exit status. Words that are no
-/// UTF-8 have the status that they have on a command line.
+/// UTF-8 have the status that they have on a command line. If `for_person` is not 0, the lines on faults say what to do.
 #[unsafe(no_mangle)]
-pub extern "C" fn run() -> u32 {
+pub extern "C" fn run(for_person: u32) -> u32 {
     with_slots(|slots| {
         let [words, input, file] = [WORDS, INPUT, FILE].map(|slot| take(&mut slots[slot]));
         (slots[OUTPUT], slots[ERRORS]) = (Vec::new(), Vec::new());
         let Ok(words) = str::from_utf8(&words) else {
             return 2;
         };
-        let outcome = program::run(&words.split('\0').collect::<Vec<_>>(), &input, &file);
+        let call = if for_person == 0 { program::run } else { program::run_for_person };
+        let outcome = call(&words.split('\0').collect::<Vec<_>>(), &input, &file);
         (slots[OUTPUT], slots[ERRORS]) = (outcome.output, outcome.errors);
         outcome.status.into()
     })

@@ -30,10 +30,24 @@ pub struct Outcome {
 /// assert_eq!((outcome.status, outcome.output.as_slice()), (0, b"\x1b[7G".as_slice()));
 /// ```
 pub fn run(words: &[&str], input: &[u8], file: &[u8]) -> Outcome {
+    run_with(Terminals::NONE, words, input, file)
+}
+
+/// The same with the lines on faults as a person at a terminal gets them: each with a sentence on what to do.
+///
+/// ```
+/// let outcome = ti_terminfo::program::run_for_person(&["show", "notes"], &[], b"no entry");
+/// assert_eq!(outcome.errors, b"notes: entry: BadMagic at 0\n  this is no compiled entry; compile a terminfo source with tic -x\n");
+/// ```
+pub fn run_for_person(words: &[&str], input: &[u8], file: &[u8]) -> Outcome {
+    run_with(Terminals { errors: true, ..Terminals::NONE }, words, input, file)
+}
+
+fn run_with(terminals: Terminals, words: &[&str], input: &[u8], file: &[u8]) -> Outcome {
     let words = [&["ti"], words].concat();
     let (mut output, mut errors) = (Vec::new(Global), Vec::new(Global));
     let (mut input, store) = (input, InMemory { file });
-    let status = run_at(&store, Global, Global, Terminals::NONE, &words, &mut input, &mut output, &mut errors);
+    let status = run_at(&store, Global, Global, terminals, &words, &mut input, &mut output, &mut errors);
     Outcome { status, output: output.into_items(), errors: errors.into_items() }
 }
 
