@@ -1,4 +1,4 @@
-//! Worked rows of the notation, of padding and of traces, in tables.
+//! Worked rows of the notation, of padding, of the parser and of traces, in tables.
 
 use std::process::Abort;
 use ti_fixtures::{Finds, first_wrong};
@@ -41,5 +41,6 @@ mod notation_read;
 mod padding_memory;
 mod padding_rows;
 mod padding_writers;
+mod parser;
 mod traces;
 mod uses;

@@ -3,4 +3,5 @@
 mod control;
 mod escape;
 mod pad;
+mod parser;
 mod trace;

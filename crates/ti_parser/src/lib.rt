@@ -1,0 +1,23 @@
+//! The parser of a terminal: which functions it hands out for the bytes that it receives, and what it remembers between them.
+//!
+//! A [`Configuration`] takes one byte at a time. It is the machine of P. Williams, "A parser for DEC's ANSI-compatible video
+//! terminals", with what today's terminals add, and reads bytes above 7F in one of six ways. Time is constant for a byte, and no
+//! memory is taken.
+#![tactic(auto)]
+
+mod character;
+mod class;
+mod configuration;
+mod function;
+pub mod laws;
+mod number;
+mod reading;
+mod state;
+mod transition;
+
+pub use character::Begun;
+pub use configuration::Configuration;
+pub use function::{Function, FunctionKind, HandedOut, Intermediates};
+pub use number::{FunctionNumber, FunctionNumbers, MOST_NUMBERS};
+pub use reading::{Coding, Reading, Within};
+pub use state::State;

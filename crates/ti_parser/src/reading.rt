@@ -1,0 +1,30 @@
+//! How a terminal may read bytes above 7F.
+
+/// What bytes from 80 on are.
+#[derive(Clone, Copy, Debug, PartialEq, Eq)]
+pub enum Coding {
+    /// UTF-8; a byte that is no part of a character is none of C1.
+    Utf8,
+    /// UTF-8 in which a byte from 80 to 9F that is no part of a character is one of C1.
+    Utf8WithC1,
+    /// Bytes: 80 to 9F is C1, and within a function A0 to FF is 20 to 7F.
+    Bytes,
+}
+
+/// What controls do within a function.
+#[derive(Clone, Copy, Debug, PartialEq, Eq)]
+pub enum Within {
+    /// A control of C1 ends the function that is underway, and its own starts. A string ignores controls of C0.
+    StartsAnew,
+    /// Controls of C0 and C1 are carried out, and the function goes on.
+    GoesOn,
+}
+
+/// One way to read bytes.
+#[derive(Clone, Copy, Debug, PartialEq, Eq)]
+pub struct Reading {
+    /// What bytes from 80 on are.
+    pub coding: Coding,
+    /// What controls do within a function.
+    pub within: Within,
+}
