@@ -272,14 +272,16 @@ def found_in(out, name, is_ecma, after):
     return all_found
 
 
-def counted(outputs, effect):
-    """One without a number that a parameter gave in some output, or else one in each."""
+def counted(outputs, stands, effect):
+    """One without a number that a parameter gave in some output, or else one in each, or else one in the text as it stands."""
     for output in outputs:
         for found in output:
             if found.effect == effect and not found.printed:
                 return found
     firsts = [next((found for found in output if found.effect == effect), None) for output in outputs]
-    return firsts[0] if firsts and all(firsts) else None
+    if firsts and all(firsts):
+        return firsts[0]
+    return next((found for found in stands if found.effect == effect), None)
 
 
 def samples(tried):
@@ -292,25 +294,28 @@ def samples(tried):
 @cache
 def outputs_of(text, kind, tried):
     """What is looked at of a text, each output once."""
-    outputs = [marked(text, parameters) for parameters in samples(tried)] if kind == "parameterized" else [plain(text)]
+    outputs = [plain(text)] if kind == "plain" else [marked(text, parameters) for parameters in samples(tried)]
     return list(dict.fromkeys(map(tuple, outputs)))
 
 
 def findings(listed, numbers_of_entry, texts):
-    """The name and the text, the word, the function and the place of each finding, over the known texts of an entry in order: their
-    names, kinds and bytes."""
+    """The name and the text, the word, the function and the place of each finding, over the texts of an entry in order: their
+    names, kinds and bytes; a text of an unknown kind is looked at as it stands too."""
     is_ecma = any(b"\x1b[" in texts.get(name, b"") for name in ("cup", "home", "clear", "el", "ed", "sgr0"))
     tried, after = dict(values.ranges(numbers_of_entry)), characters(plain(texts.get("fsl", b"")))
     for name, kind, text in listed:
         if name[:1] == "k" or name in NOT_SENT:
             continue
+        stands = []
         try:
             outputs = outputs_of(text, kind, tuple(tried.get(name, ())))
+            if kind == "unknown":
+                stands = found_in(plain(text), name, is_ecma, after)
         except capability.Refused:
-            continue
+            outputs = [plain(text)]
         found = [found_in(out, name, is_ecma, after) for out in outputs]
         for effect in EFFECTS:
-            if one := counted(found, effect):
+            if one := counted(found, stands, effect):
                 yield name, text, one
 
 

@@ -7,6 +7,7 @@ import re
 from pathlib import Path
 
 import capability
+import lint
 from entry import ABSENT, CANCELLED
 from notation import formed, notation
 
@@ -138,17 +139,34 @@ def is_number(word):
     return re.fullmatch(r"-?[0-9]+", word) is not None and -(2**31) <= int(word) < 2**31
 
 
+def place_named(name, tables):
+    """The kind and the index of the standard capability that a name or the label of a text means, or None."""
+    label = re.fullmatch(LABEL, name)
+    if label and label[1] in ("", "text"):
+        return "text", int(label[2])
+    places = [(kind, index) for table in tables for kind in KINDS for index, its_name in table[kind].items() if its_name == name]
+    return places[0] if places else None
+
+
+def takes_numbers_alone(name, place):
+    """Whether a capability without a count takes no text: a standard one, or a user-defined one of which a manual says what it is."""
+    if place:
+        return place[0] != "text" or place[1] < len(CLASSES)
+    own = name.encode(errors="surrogateescape")
+    return (own[:1] == b"k" or own in lint.OWN_CLASSES) and name not in lint.TEXT_PARAMETERS
+
+
 def must_fit(name, words, tables):
     """A Misfit if these are more words than terminfo(5) gives the capability with a name, or if one is no number where it has
     a number."""
-    texts = [index for table in tables for index, its_name in table["text"].items() if its_name == name]
-    label = re.fullmatch(LABEL, name)
-    if label and label[1] in ("", "text"):
-        texts = [int(label[2])]
-    short, kind, count = CLASSES[texts[0]] if texts and texts[0] < len(CLASSES) else ("", "", "0")
-    if kind != "parameterized":
-        return
+    place = place_named(name, tables)
+    is_text = place and place[0] == "text" and place[1] < len(CLASSES)
+    short, kind, count = CLASSES[place[1]] if is_text else ("", "", "0")
     is_other = [word[:2] not in ("n:", "s:") and not is_number(word) for word in words]
+    if kind != "parameterized":
+        if takes_numbers_alone(name, place) and True in is_other:
+            raise Misfit(f"parameter {is_other.index(True) + 1}: no 32-bit number; an entry is named by --entry FILE")
+        return
     if len(words) > int(count):
         hint = "; an entry is named by --entry FILE" if is_other[int(count)] else ""
         raise Misfit(f"parameters: {short} takes {count}, not {len(words)}{hint}")

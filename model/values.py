@@ -106,10 +106,10 @@ def of_numbers(name, text, values, outputs):
         yield "empty-output", words(name, values[outputs.index(b"")]) + " it sends nothing"
     if pair := same(outputs):
         one, other = (words(name, values[at]) for at in pair)
-        yield "same-output", f"{one} and{other} it sends {shown(outputs[pair[1]])}"
+        yield "same-output", f"{one} and{other} it sends {sends(outputs[pair[1]])}"
     for value, output in zip(values, outputs):
         if prints_negative(text, value):
-            yield "negative-number", f"{words(name, value)} it sends {shown(output)}, with a number below 0"
+            yield "negative-number", f"{words(name, value)} it sends {sends(output)}, with a number below 0"
             break
 
 
@@ -120,10 +120,10 @@ def of_attributes(texts, values, outputs):
     for bit, name in enumerate(ATTRIBUTES):
         output = outputs[1 << bit]
         if name in texts and output != outputs[0] and differs(output, MARK.sub(b"", texts[name])):
-            yield "sgr-attribute-differs", f" for %p{bit + 1} it sends {shown(output)}, and {name} is {shown(texts[name])}"
+            yield "sgr-attribute-differs", f" for %p{bit + 1} it sends {sends(output)}, and {name} is {shown(texts[name])}"
     for number, value in enumerate(values):
         if is_combination(outputs, number):
-            yield "sgr-combination", f"{words('sgr', value)} it sends {shown(outputs[number])}, without what one of them sends alone"
+            yield "sgr-combination", f"{words('sgr', value)} it sends {sends(outputs[number])}, without what one of them sends alone"
             break
 
 
@@ -131,11 +131,39 @@ def shown(output):
     return (notation(output) or b"-").decode("latin-1")
 
 
+def sends(output):
+    return shown(output) if output else "nothing"
+
+
+# What stands among the numbers of a sequence, before another number, and what to do about it in a string with parameters or another.
+SPLITS = {
+    "a space": (re.compile(rb"\x1b\[[0-?]* [ -/]*[0-?]"), "write %d or %02d, and no space", "leave out the space"),
+    "a minus": (re.compile(rb"\x1b\[[0-?]*-[ -/]*[0-?]"), "leave out the minus", "leave out the minus"),
+}
+
+
+def sequence_of(sent, meaning):
+    """What is told of a sequence that is not ended."""
+    if not meaning.endswith("\\E[ is not ended") and not meaning.endswith("\\E[ that is not ended"):
+        return meaning
+    for byte, (pattern, _, _) in SPLITS.items():
+        if pattern.search(sent):
+            return f"{', where ' * meaning.startswith(',')}{byte} stands among the numbers of a \\E["
+    return meaning
+
+
+def fix_of_sequence(meaning):
+    for byte, (_, of_values, plain) in SPLITS.items():
+        if f"{byte} stands among the numbers" in meaning:
+            return of_values if ", where" in meaning else plain
+    return "write the final byte of the sequence"
+
+
 def first(name, values, outputs, holds, meaning):
     """What is told of the first value of which it holds."""
     for value, output in zip(values, outputs):
         if holds(output):
-            yield f"{words(name, value)} it sends {shown(output)}{meaning}"
+            yield f"{words(name, value)} it sends {sends(output)}{sequence_of(output, meaning)}"
             return
 
 

@@ -5,11 +5,13 @@ use Rattle.clap.specs.Facts.{explicit_source}
 use Rattle.clap.specs.Words.{Row, Text}
 use Rattle.clap.proofs.OnLiterals.{clap_on_literals}
 use Rattle.ti_names.specs.NameLists.{all_flags, all_numbers, all_texts}
-use Rattle.ti_line.specs.Fits.{Fit, IsCounted, IsMisfit}
+use Rattle.ti_lint.specs.ExtendedClasses.{extended_classes}
+use Rattle.ti_line.specs.Fits.{Fit, IsMisfit, IsTaking}
+use Rattle.ti_line.specs.declared.fit.Takes.TheVariants.{Anything, Counted, Numbers}
 use Rattle.ti_line.specs.TextLabels.{IsLabel, IsTextLabel}
 use Rattle.ti_line.specs.declared.given.Param.{Param}
 use Rattle.ti_line.specs.declared.given.Param.TheVariants.{Either, Word}
-use Rattle.ti_line.specs.declared.no_request.LineFault.TheVariants.{NoNumber, Surplus}
+use Rattle.ti_line.specs.declared.no_request.LineFault.TheVariants.{NoNumber, OnlyNumbers, Surplus}
 use Rattle.ti_line.specs.CommandLine.{AsksForHelp, Cap, Check, Command, Convert, Diff, Expand, Get, IsRefused, Lint, Reads, Show, Trace, files_of, has_summary}
 
 -- words are read as a subcommand with these values of arguments, besides the defaults
@@ -166,47 +168,75 @@ no_label name first is low high index (inl (digits, same, numeral, few, value)) 
 no_label name first is low high index (inr (label, same, rest)) =
     let letter : 116 ≡ first = sym (ap (λ ws. get_or ws 0 0) same) ∙ is in absurd (omega (arith, letter, high))
 
--- terminfo(5) gives `cup`, the text at 10, two parameters, by its long name and by its label too; to `bel` and to an own name
--- it gives no count
-cup_counts : IsCounted (codes "cup") (Some (10, 2))
+-- terminfo(5) gives `cup`, the text at 10, two parameters, by its long name and by its label too; `bel`, a flag, a number, and
+-- the own names `Ss` and `kxyz` take numbers; of `Ms`, which takes texts, and of `own` nothing is known
+cup_takes : IsTaking (codes "cup") (Counted 10 2)
 unfolding all_flags all_numbers all_texts
-cup_counts = (Some 10, inr (no_label (codes "cup") 99 refl (omega arith) (omega arith), refl), refl)
+cup_takes = inr (no_label (codes "cup") 99 refl (omega arith) (omega arith), refl)
 
-long_counts : IsCounted (codes "cursor_address") (Some (10, 2))
+long_takes : IsTaking (codes "cursor_address") (Counted 10 2)
 unfolding all_flags all_numbers all_texts
-long_counts = (Some 10, inr (no_label (codes "cursor_address") 99 refl (omega arith) (omega arith), refl), refl)
+long_takes = inr (no_label (codes "cursor_address") 99 refl (omega arith) (omega arith), refl)
 
-mark_counts : IsCounted (codes "#10") (Some (10, 2))
+mark_takes : IsTaking (codes "#10") (Counted 10 2)
 unfolding all_texts
-mark_counts = (Some 10, inl (10, inl ten, refl), refl)
+mark_takes = inl (10, inl ten, refl)
 
-label_counts : IsCounted (codes "text#10") (Some (10, 2))
+label_takes : IsTaking (codes "text#10") (Counted 10 2)
 unfolding all_texts
-label_counts = (Some 10, inl (10, inr (codes "#10", refl, ten), refl), refl)
+label_takes = inl (10, inr (codes "#10", refl, ten), refl)
 
-bel_has_no_count : IsCounted (codes "bel") None
+bel_takes : IsTaking (codes "bel") Numbers
 unfolding all_flags all_numbers all_texts
-bel_has_no_count = (Some 1, inr (no_label (codes "bel") 98 refl (omega arith) (omega arith), refl), refl)
+bel_takes = inr (no_label (codes "bel") 98 refl (omega arith) (omega arith), refl)
 
-own_has_no_count : IsCounted (codes "E3") None
+am_takes : IsTaking (codes "am") Numbers
 unfolding all_flags all_numbers all_texts
-own_has_no_count = (None, inr (no_label (codes "E3") 69 refl (omega arith) (omega arith), refl), refl)
+am_takes = inr (no_label (codes "am") 97 refl (omega arith) (omega arith), refl)
+
+colors_takes : IsTaking (codes "colors") Numbers
+unfolding all_flags all_numbers all_texts
+colors_takes = inr (no_label (codes "colors") 99 refl (omega arith) (omega arith), refl)
+
+own_takes : IsTaking (codes "Ss") Numbers
+unfolding all_flags all_numbers all_texts extended_classes
+own_takes = inr (no_label (codes "Ss") 83 refl (omega arith) (omega arith), refl)
+
+key_takes : IsTaking (codes "kxyz") Numbers
+unfolding all_flags all_numbers all_texts
+key_takes = inr (no_label (codes "kxyz") 107 refl (omega arith) (omega arith), refl)
+
+clipboard_takes : IsTaking (codes "Ms") Anything
+unfolding all_flags all_numbers all_texts extended_classes
+clipboard_takes = inr (no_label (codes "Ms") 77 refl (omega arith) (omega arith), refl)
+
+unknown_takes : IsTaking (codes "own") Anything
+unfolding all_flags all_numbers all_texts extended_classes
+unknown_takes = inr (no_label (codes "own") 111 refl (omega arith) (omega arith), refl)
 
 -- `cup 4 9`, `cup 4 9 entry` and `cup 4 red`
 fit_row : Fit (codes "cup") 2 (number 4 (codes "4") ∷ number 9 (codes "9") ∷ [])
 unfolding all_flags all_numbers all_texts
-fit_row = (Some (10, 2), cup_counts, (omega arith, refl))
+fit_row = (Counted 10 2, cup_takes, (omega arith, refl))
 
 surplus_row : IsMisfit (codes "cup") 3 (number 4 (codes "4") ∷ number 9 (codes "9") ∷ word (codes "entry") ∷ []) (Surplus 10 2 3 true)
 unfolding all_flags all_numbers all_texts
-surplus_row = (cup_counts, omega arith, refl, refl)
+surplus_row = (cup_takes, omega arith, refl, refl)
 
 no_number_row : IsMisfit (codes "cup") 2 (number 4 (codes "4") ∷ word (codes "red") ∷ []) (NoNumber 10 2)
 unfolding all_flags all_numbers all_texts
-no_number_row = (2, cup_counts, omega arith, refl)
+no_number_row = (2, cup_takes, omega arith, refl)
+
+-- `am entry`, and `bel 1 2 3`, which are as many numbers as may be
+only_numbers_row : IsMisfit (codes "am") 1 (word (codes "entry") ∷ []) (OnlyNumbers 1)
+unfolding all_flags all_numbers all_texts
+only_numbers_row = (am_takes, refl)
+
+numbers_row : Fit (codes "bel") 2 (number 1 (codes "1") ∷ number 2 (codes "2") ∷ [])
+unfolding all_flags all_numbers all_texts
+numbers_row = (Numbers, bel_takes, refl)
 
 -- `pfkey 1 text`
 key_row : Fit (codes "pfkey") 2 (number 1 (codes "1") ∷ word (codes "text") ∷ [])
 unfolding all_flags all_numbers all_texts
-key_row =
-    (Some (115, 2), (Some 115, inr (no_label (codes "pfkey") 112 refl (omega arith) (omega arith), refl), refl), (omega arith, refl))
+key_row = (Counted 115 2, inr (no_label (codes "pfkey") 112 refl (omega arith) (omega arith), refl), (omega arith, refl))

@@ -8,11 +8,11 @@ ghost use Rattle.ti_line.specs.inner.Command.{Makes};
 use crate::help::{
     ALL, ALL_NAMES, ANY_NAME, ANY_PARAMS, COLOR, ESCAPE, EXPAND, EXPLAIN, FAULTS, FILE, FILES,
     FORCE, HEX, JSON, LINES, NARROW, OF, PAIR, PARAMS, RATE, SOURCE, STATUSES, SUMMARY, TEXT_NAME,
-    TRACE_PARAMS, UNTRUSTED, VERSION_AND_KIT, WIDE, XON,
+    TRACE_PARAMS, UNTRUSTED, WIDE, XON,
 };
 use clap::{Arg, ArgAction, Command, value_parser};
 use std::alloc::{AllocError, Global};
-use ti_base::{GREATEST_RATE, MOST_LINES};
+use ti_base::{GREATEST_RATE, MOST_LINES, VERSION};
 
 /// An option without a value.
 fn flag<'a>(alloc: Global, name: &'a str, help: &'a str) -> Arg<'a>
@@ -349,7 +349,7 @@ fn start<'a>(alloc: Global) -> Result<Command<'a>, AllocError>
     Ok(
         Command::new(alloc, "ti")
             .about("Read, check, compare, expand and write compiled terminfo entries")
-            .version(VERSION_AND_KIT)
+            .version(VERSION)
             .subcommand_required(true)
             .after_help(STATUSES),
     )

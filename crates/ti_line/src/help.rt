@@ -1,8 +1,5 @@
 //! The texts of help. A line on an argument has at most 58 characters, so that help fits into 80 columns.
 
-/// The version, and the toolchain that proves the program.
-pub(crate) const VERSION_AND_KIT: &str = "0.3.0 (rattle-kit-13f)";
-
 pub(crate) const PARAMS: &str = "Parameters: n:NUMBER (-2147483648 to 2147483647) or
 s:TEXT; at most nine, a missing one is the number 0";
 

@@ -51,6 +51,11 @@ pub enum LineFault {
         /// Which word it is, counted from 1.
         which: usize,
     },
+    /// A word without a mark is no number of 32 bits, and the capability takes no text, so that it may name a file.
+    OnlyNumbers {
+        /// Which word it is, counted from 1.
+        which: usize,
+    },
 }
 
 impl fmt::Display for LineFault {
@@ -69,6 +74,7 @@ impl fmt::Display for LineFault {
             LineFault::Words(why) => return write!(f, "{why}"),
             LineFault::Surplus { .. } => "Surplus",
             LineFault::NoNumber { .. } => "NoNumber",
+            LineFault::OnlyNumbers { .. } => "OnlyNumbers",
         };
         f.write_str(word)
     }

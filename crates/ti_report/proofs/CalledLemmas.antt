@@ -11,7 +11,7 @@ use Rattle.ti_lint.specs.declared.token_finding.TokenFinding.TheVariants.{StackU
 use Rattle.ti_report.specs.Explanations.{IsUnknown, explained, finding_called}
 use Rattle.ti_report.specs.Findings.{finding_word}
 use Rattle.ti_report.specs.declared.finding.Finding.{Finding}
-use Rattle.ti_report.specs.declared.finding.Finding.TheVariants.{Token, Control, Malformed, UnusedParameter, UnusedColumn, UninterpretedEscape, UninterpretedPercent, FalseMark, MarkInKey, HalfPaired, EqualPair, ToggledPair, KeyPrefix, AlikeKeys, RepeatedName, StandardName, ColorsStay, NoColors, ColorsAreFixed, Layout, Base, EmptyOutput, SameOutput, NegativeNumber, OriginDiffers, IgnoredAttribute, DifferingAttribute, Combination, ShownText, UnendedSequence, UnendedText, EmptyKey, LongDelay, LongDelays, Runs, Reads, Size, LoneMir, NamesControl, NamesMalformed, EmptyAlias, UnfitAlias, LongNames, OwnNameControl, RepeatedAlias, NotTried}
+use Rattle.ti_report.specs.declared.finding.Finding.TheVariants.{Token, Control, Malformed, UnusedParameter, UnusedColumn, UninterpretedEscape, UninterpretedPercent, FalseMark, MarkInKey, HalfPaired, EqualPair, ToggledPair, KeyPrefix, AlikeKeys, RepeatedName, StandardName, ColorsStay, NoColors, ColorsAreFixed, Layout, Base, EmptyOutput, SameOutput, NegativeNumber, OriginDiffers, IgnoredAttribute, DifferingAttribute, Combination, ShownText, UnendedSequence, SpacedSequence, SignedSequence, UnendedText, SpacedText, SignedText, EmptyKey, LongDelay, LongDelays, Runs, Reads, Size, LoneMir, NamesControl, NamesMalformed, EmptyAlias, UnfitAlias, LongNames, OwnNameControl, RepeatedAlias, NotTried, OpenLine}
 
 abbrev has : List ℕ → Finding → Bool
 has word finding = bytes_eq (finding_word finding) word
@@ -64,7 +64,12 @@ listed : (finding : Finding) → is_some (finding_called (finding_word finding))
 unfolding explained
 listed (Token finding) = token_listed finding
 listed (Control effect) = effect_listed effect
-listed Malformed = refl
+listed (Malformed fault) = refl
+listed OpenLine = refl
+listed SpacedSequence = refl
+listed SignedSequence = refl
+listed SpacedText = refl
+listed SignedText = refl
 listed UnusedParameter = refl
 listed UnusedColumn = refl
 listed UninterpretedEscape = refl

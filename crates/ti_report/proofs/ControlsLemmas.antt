@@ -7,10 +7,11 @@ use Rattle.ti_control.specs.Misplaced.{Place}
 use Rattle.ti_values.specs.Controls.{Found}
 use Rattle.ti_values.specs.Idle.{IsIdle}
 use Rattle.ti_values.specs.Outputs.{AreOutputs, AreSamples, IsTriedOver, samples_of}
+use Rattle.ti_values.specs.Samples.{few_samples}
 use Rattle.ti_values.proofs.IdleLemmas.{idle_arms_found, idle_outputs, none_counted}
 use Rattle.ti_values.specs.declared.range.Range.{Range}
 use Rattle.ti_values.specs.declared.samples.Sample.{Sample}
-use Rattle.ti_report.specs.Controls.{AreCapabilityControls, AreControlsAt, ArePlainFound, Terminal, control_remarks, on_counted, on_effect, place_in, range_in}
+use Rattle.ti_report.specs.Controls.{AreCapabilityControls, AreControlsAt, ArePlainFound, AreUnknownAt, AreUnknownFound, Terminal, control_remarks, on_counted, on_effect, place_in, range_in}
 
 pub controls_are : (t : Terminal) (name text capability : List ℕ) (place : Place) (range : Option Range) (samples lent : List Sample) (outputs os : List (List Found)) (plain ps : List Found)
     → capability ≡ text → place ≡ place_in t name → range ≡ range_in t.rows name → lent ≡ samples → os ≡ outputs → ps ≡ plain
@@ -35,6 +36,21 @@ controls_are t name text capability place range samples lent outputs os plain ps
       subst F same (subst G there (subst H (sym ps_are) found)),
       refl,
     )
+
+-- ---- a text of which nothing is known
+
+pub unknown_are : (t : Terminal) (name text capability : List ℕ) (place : Place) (samples : List Sample) (outputs os : List (List Found)) (found fs : List Found)
+    → capability ≡ text → place ≡ place_in t name → samples ≡ few_samples → os ≡ outputs → fs ≡ found
+    → AreOutputs place capability samples outputs → AreUnknownFound t.untrusted place text found
+    → AreUnknownAt t.untrusted (place_in t name) text (control_remarks name text os fs)
+unknown_are t name text capability place samples outputs os found fs same there few os_are fs_are sent are =
+    let O : List ℕ → Type 0 = λ x. AreOutputs (place_in t name) x few_samples os in
+    let S : List Sample → Type 0 = λ s. AreOutputs (place_in t name) capability s os in
+    let P : Place → Type 0 = λ p. AreOutputs p capability samples os in
+    let U : List (List Found) → Type 0 = λ o. AreOutputs place capability samples o in
+    let F : Place → Type 0 = λ p. AreUnknownFound t.untrusted p text fs in
+    let G : List Found → Type 0 = λ f. AreUnknownFound t.untrusted place text f in
+    (os, fs, subst O same (subst S few (subst P there (subst U (sym os_are) sent))), subst F there (subst G (sym fs_are) are), refl)
 
 -- ---- a text that can send no control function with an effect
 

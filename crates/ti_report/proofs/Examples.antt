@@ -73,7 +73,7 @@ pub reports : (reported Errors (on (Token ParameterRange) ∷ on SameOutput ∷ 
 reports = (refl, refl)
 
 -- what to do about a second `%i`, as in `csr` of vt100-s, and about a command
-pub remedies : (remedy (Token RepeatedIncrement) ≡ codes "do: write %{1}%+ in place of the second %i") × (remedy Runs ≡ codes "do: leave it out")
+pub remedies : (remedy (Token RepeatedIncrement) ≡ codes "do: leave out the second %i, and write %{1}%+ after a %p that should be greater by 1") × (remedy Runs ≡ codes "do: leave it out")
 remedies = (refl, refl)
 
 -- what programs do with `iprog`, `if` and `rf`, and a number below 0

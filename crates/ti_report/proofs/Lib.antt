@@ -3,6 +3,7 @@ pub mod ControlsLemmas
 pub mod MarkedLemmas
 pub mod PlacesLemmas
 pub mod ReportedLemmas
+pub mod HarmLemmas
 pub mod FirstPlaceLemmas
 pub mod CoveragesLemmas
 pub mod NameBytesLemmas

@@ -25,7 +25,8 @@ use Rattle.ti_values.specs.Sent.{AreSent}
 use Rattle.ti_control.specs.Capabilities.{is_sent}
 use Rattle.ti_control.specs.Misplaced.{Place}
 use Rattle.ti_values.specs.Controls.{Found}
-use Rattle.ti_values.specs.Outputs.{AreOutputs}
+use Rattle.ti_values.specs.Outputs.{AreOutputs, plain_found}
+use Rattle.ti_values.specs.Samples.{few_samples}
 use Rattle.ti_values.proofs.OneControlsLemmas.{one_arms_found, one_outputs, one_samples}
 use Rattle.ti_values.proofs.OneSentLemmas.{one_first_of, one_first_same, one_sends, one_sent}
 use Rattle.ti_words.specs.Texts.{AbsentText, CancelledText, TextOf, TextValue}
@@ -37,7 +38,7 @@ use Rattle.ti_report.specs.declared.finding.Finding.{Finding}
 use Rattle.ti_report.specs.declared.finding.Finding.TheVariants as findings
 use Rattle.ti_report.specs.Actions.{action_remarks}
 use Rattle.ti_report.specs.Blocks.{report_lines}
-use Rattle.ti_report.specs.Controls.{AreCapabilityControls, AreControlRemarks, AreControlsIn, AreControlsOf, ArePlainFound, Terminal, control_remarks, place_in, range_in, terminal_of}
+use Rattle.ti_report.specs.Controls.{AreCapabilityControls, AreControlRemarks, AreControlsIn, AreControlsOf, ArePlainFound, AreUnknownAt, AreUnknownControls, Terminal, control_remarks, place_in, plain_controls, range_in, terminal_of}
 use Rattle.ti_report.specs.Keys.{AreKeyRemarks, entry_keys}
 use Rattle.ti_report.specs.Lines.{AreAll, AreReports, InTurn}
 use Rattle.ti_report.specs.NameBytes.{AreAliases, IsRepeatedReport, parted, AreNameByteRemarks, IsAliasReport, IsOwnNameReport, IsUtf8Report, alias_remarks, long_names, on_names}
@@ -54,9 +55,9 @@ use Rattle.ti_report.specs.Origins.{AreOriginRemarks, AreOriginsBeside, AreOrigi
 use Rattle.ti_report.specs.Pairs.{all_pair_remarks}
 use Rattle.ti_report.specs.Reported.{reported}
 use Rattle.ti_report.specs.Sequences.{AreSequenceRemarks, IsSequenceIn, IsSequenceOf}
-use Rattle.ti_report.specs.Subjects.{KnownText, known_texts}
+use Rattle.ti_report.specs.Subjects.{KnownText, UnknownText, known_texts, unknown_texts}
 use Rattle.ti_report.specs.Texts.{IsCapabilityReport, IsEscapeReport, IsFindingReport, IsFindingsReport, IsJudged, IsJudgedAs, IsKeyReport, IsPercentReport, IsPlacesReport, IsPlainReport, IsUnusedReport, all_findings, empty_key, evidence_of, expected_in, unused_remarks, usage_of}
-use Rattle.ti_report.specs.Values.{AreAttributesRemarks, AreNumbersRemarks, AreValueRemarks, IsNamedTriedReport, IsNumbersReport, IsRangeReport, IsShortReport, IsRemarkOf, IsTriedReport, IsTriedReportOf, IsUnendedReport, Trial, is_ansi_entry, remark_of, text_named}
+use Rattle.ti_report.specs.Values.{AreAttributesRemarks, AreNumbersRemarks, AreValueRemarks, IsNamedTriedReport, IsNumbersReport, IsRangeReport, IsShortReport, IsRemarkOf, IsTriedReport, IsTriedReportOf, IsUnendedReport, Trial, is_ansi_entry, remark_of, sent_evidence, text_named, unended_finding}
 use Rattle.ti_report.specs.Whole.{whole_remarks}
 use Rattle.ti_report.proofs.OneKeysLemmas.{one_keys}
 use Rattle.ti_report.proofs.OnePlacesLemmas.{one_marked, one_places_from, one_places_of, one_tests}
@@ -161,8 +162,9 @@ one_remark : {X : Type 0} (IsFound : Option X → Type 0) (finding : Finding) (e
 one_remark IsFound finding evidence t once r s (a, found, e) (b, also, f) = e ∙ ap (remark_of t finding evidence) (once a b found also) ∙ sym f
 
 one_unended : (ansi : Bool) (t : Trial) → IsOne (IsUnendedReport ansi t)
-one_unended false t = λ r s d h. d ∙ sym h
-one_unended true t = one_remark _ _ _ t (one_first_of _)
+one_unended false t r s d h = d ∙ sym h
+one_unended true t r s (a, found, e) (b, also, f) =
+    e ∙ ap (λ k. remark_of t (unended_finding t k) (sent_evidence t) k) (one_first_of _ a b found also) ∙ sym f
 
 one_of_numbers : (ansi : Bool) (t : Trial) → IsOne (AreNumbersRemarks ansi t)
 one_of_numbers ansi t =
@@ -301,12 +303,24 @@ one_of_controls t name text r s (samples, outputs, plain, tried, sent, found, e)
 
 one_in_class : (sent : Bool) (t : Terminal) (class : Class) (name text : List ℕ) → IsOne (AreControlsIn sent t class name text)
 one_in_class true t classes.Plain name text = λ r s d h. d ∙ sym h
-one_in_class true t (classes.Parameterized parameters) name text = refused_or text (λ refused. []) _ (one_of_controls t name text)
+one_in_class true t (classes.Parameterized parameters) name text = refused_or text (λ refused. plain_controls t name text) _ (one_of_controls t name text)
 one_in_class true t class name text = λ r s d h. d ∙ sym h
 one_in_class false t class name text = λ r s d h. d ∙ sym h
 
+one_of_unknown : (untrusted : Bool) (place : Place) (text : List ℕ) → IsOne (AreUnknownAt untrusted place text)
+one_of_unknown untrusted place text r s (outputs, found, sent, (plain, are, is), e) (others, also, too, (again, so, same), f) =
+    let alike : outputs ≡ others = one_outputs place text few_samples outputs others sent too in
+    let found_alike : found ≡ also = is ∙ ap (λ p. plain_found place text ++ p) (one_plain_found untrusted place text plain again are so) ∙ sym same in
+    e ∙ ap₂ (control_remarks place.capability text) alike found_alike ∙ sym f
+
+one_unknown : (t : Terminal) (u : UnknownText) → IsOne (AreUnknownControls t u)
+one_unknown t u = refused_or u.text (λ refused. plain_controls t u.name u.text) _ (one_of_unknown t.untrusted (place_in t u.name) u.text)
+
 one_controls : (untrusted : Bool) (v : EntryValue) → IsOne (AreControlRemarks untrusted v)
-one_controls untrusted v = all (AreControlsOf (terminal_of untrusted v)) (λ t. one_in_class (is_sent t.name) (terminal_of untrusted v) t.class t.name t.text) (known_texts v)
+one_controls untrusted v =
+    let t = terminal_of untrusted v in
+    in_turn (AreAll (AreControlsOf t) (known_texts v)) (AreAll (AreUnknownControls t) (unknown_texts v))
+    (all (AreControlsOf t) (λ k. one_in_class (is_sent k.name) t k.class k.name k.text) (known_texts v)) (all (AreUnknownControls t) (one_unknown t) (unknown_texts v))
 
 one_found_list : (untrusted : Bool) (bytes : List ℕ) (v : EntryValue) → IsOne (AreRemarks untrusted bytes v)
 one_found_list untrusted bytes v =

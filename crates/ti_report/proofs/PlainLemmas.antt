@@ -11,7 +11,7 @@ use Rattle.ti_escape.specs.declared.form.Form.TheVariants as forms
 use Rattle.ti_escape.proofs.PrintableLemmas.{has_no_space, is_printable_all, label_chars_printable}
 use Rattle.serde_json.specs.Data.{Data}
 use Rattle.ti_json.specs.Objects.{array_text}
-use Rattle.ti_json.proofs.PlainLemmas.{HavePlain, IsPlain, array_is_text, fault_text}
+use Rattle.ti_json.proofs.PlainLemmas.{HavePlain, IsPlain, array_is_text}
 use Rattle.ti_json.proofs.TextLemmas.{IsText, both, decimal_text, signed_text}
 use Rattle.ti_lint.specs.declared.token_finding.TokenFinding.{TokenFinding}
 use Rattle.ti_lint.specs.FindingWords.{token_word}
@@ -19,8 +19,8 @@ use Rattle.ti_values.specs.declared.tried.Tried.{Tried}
 use Rattle.ti_values.specs.declared.tried.Tried.TheVariants.{Number, Two, Attributes}
 use Rattle.ti_report.specs.declared.finding.Finding.{Finding}
 use Rattle.ti_report.specs.Findings.{finding_remedy, finding_sentence, finding_word, token_words}
-use Rattle.ti_report.specs.Remarks.{About, OfEntry, OfName, OfText, OfTwo, Remark, Evidence, NoEvidence, Fault, Last, Value, Parameters, For, Sent, SentForTwo, Attribute, Lacking, Function}
-use Rattle.ti_report.specs.Sentences.{after, before, called_words, content_words, function_words, is_in, meaning, parameter_word, parameter_words, sent_words, value_words}
+use Rattle.ti_report.specs.Remarks.{About, OfEntry, OfName, OfText, OfTwo, Remark, Evidence, NoEvidence, Last, Value, Parameters, For, Sent, SentForTwo, Attribute, Lacking, Function}
+use Rattle.ti_report.specs.Sentences.{after, before, called_words, content_words, function_words, is_in, meaning, output_words, parameter_word, parameter_words, sent_words, value_words}
 use Rattle.ti_report.specs.Objects.{about_objects, place_number, remark_object}
 use Rattle.ti_lint.specs.declared.lint_options.LintOptions.{LintOptions}
 use Rattle.ti_words.specs.Value.{EntryValue}
@@ -68,10 +68,12 @@ value_text (Attributes set) =
     let words = parameter_words (record { mask = set }) 9 1 in
     either (set == 0) (codes "for no attribute") (codes "for" ++ words) refl (both (codes "for") words refl (parameters_text (record { mask = set }) 9 1 (omega arith)))
 
+output_text : (sent : List ℕ) → IsText (output_words sent)
+output_text [] = refl
+output_text (byte ∷ rest) = both (codes " it sends ") (shown forms.Notation (byte ∷ rest)) refl (shown_text (byte ∷ rest))
+
 sent_text : (value : Tried) (sent : List ℕ) → IsText (sent_words value sent)
-sent_text value sent =
-    let it = shown forms.Notation sent in
-    both (value_words value) (codes " it sends " ++ it) (value_text value) (both (codes " it sends ") it refl (shown_text sent))
+sent_text value sent = both (value_words value) (output_words sent) (value_text value) (output_text sent)
 
 content_text : (content : List ℕ) → IsText (content_words content)
 content_text [] = refl
@@ -89,7 +91,6 @@ function_text name content purpose =
 
 before_text : (evidence : Evidence) → IsText (before evidence)
 before_text NoEvidence = refl
-before_text (Fault fault) = refl
 before_text (Last parameter) = both (codes "%p") (decimal parameter) refl (decimal_text parameter)
 before_text (Value value) = refl
 before_text (Parameters set) = refl
@@ -103,7 +104,6 @@ before_text (Function name content purpose) = function_text name content purpose
 
 after_text : (evidence : Evidence) → IsText (after evidence)
 after_text NoEvidence = refl
-after_text (Fault fault) = fault_text fault
 after_text (Last parameter) = refl
 after_text (Value value) = signed_text value
 after_text (Parameters set) = parameters_text set 9 1 (omega arith)

@@ -2,6 +2,7 @@
 use Rattle.std.proofs.Common.{◌≡◌, ◌∙◌, ◌+◌, ◌<◌, ◌≤◌, ℕ, suc, List, [], ◌∷◌, ◌++◌, length, drop, get_or, map, refl, sym, ap, ap₂, arith, false, subst, append_assoc, add-one, drop-cons}
 use Rattle.std.proofs.lemmas.List.{append-nil, drop_all, get_or-map, length-map}
 use Rattle.ti_names.specs.declared.class.Class.TheVariants.{Parameterized}
+use Rattle.ti_report.specs.declared.remark.NamedText.{NamedText}
 use Rattle.ti_report.specs.declared.subject.KnownText.{KnownText}
 use Rattle.ti_report.specs.Lines.{Adds, AreAll, AreReports}
 
@@ -39,6 +40,10 @@ no_text = record {
   class = Parameterized 0;
   standard = false;
 }
+
+-- one of which nothing is known
+abbrev pub no_unknown : NamedText
+no_unknown = no_text.subject
 
 -- what was written so far goes on to lines of all, whatever is told of those that are left
 pub record GoesOnWith {X Y : Type 0} (L : X → List Y → Type 0) (all left : List X) (before out : List Y) : Type 0 where

@@ -19,7 +19,8 @@ trial name text range sent = record { name = name; text = text; tried = values r
 
 untold_unended : (ansi : Bool) (name other text : List ℕ) (range : Range) (sent : List (List ℕ)) → IsUnendedReport ansi (trial name text range sent) [] → IsUnendedReport ansi (trial other text range sent) []
 untold_unended false name other text range sent is = refl
-untold_unended true name other text range sent report = untold _ _ _ _ (trial name text range sent) (trial other text range sent) report
+untold_unended true name other text range sent (None, found, is) = (None, found, refl)
+untold_unended true name other text range sent (Some x, found, is) = absurd (cc)
 
 -- of two kinds that come to nothing each comes to nothing
 both : (Are AreMore Others OtherMore : List Remark → Type 0) → (Are [] → Others []) → (AreMore [] → OtherMore []) → InTurn Are AreMore [] → InTurn Others OtherMore []

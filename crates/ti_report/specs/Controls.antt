@@ -1,29 +1,32 @@
 -- Control functions that may not stand in the text that sends them.
-use Rattle.std.specs.Prelude.{◌≡◌, ◌⊎◌, ℕ, ◌||◌, Bool, true, false, List, [], ◌∷◌, codes, map, Option, Some, None, if◌then◌else◌}
+use Rattle.std.specs.Prelude.{◌≡◌, ◌⊎◌, ℕ, ◌||◌, Bool, true, false, List, [], ◌∷◌, ◌++◌, codes, map, Option, Some, None, if◌then◌else◌}
 use Rattle.std.specs.List.{flat_map, list_any}
 use Rattle.std.specs.Str.{bytes_eq}
 use Rattle.ti_cap.specs.declared.language.CapRefused.{CapRefused}
 use Rattle.ti_cap.specs.Refusal.{IsFaultless, IsRefusal}
-use Rattle.ti_control.specs.Capabilities.{is_sent}
+use Rattle.ti_control.specs.Capabilities.{is_sent, may_stand}
 use Rattle.ti_control.specs.Effects.{effects}
 use Rattle.ti_control.specs.Entries.{ecma_capabilities, starts_introducer}
 use Rattle.ti_control.specs.Misplaced.{Place}
 use Rattle.ti_control.specs.declared.effect.Effect.{Effect}
+use Rattle.ti_control.specs.declared.effect.Effect.TheVariants.{OpenString}
 use Rattle.ti_control.specs.declared.sent_byte.SentByte.{SentByte}
 use Rattle.ti_control.specs.declared.sent_byte.SentByte.TheVariants.{Plain}
 use Rattle.ti_names.specs.declared.class.Class.{Class}
 use Rattle.ti_names.specs.declared.class.Class.TheVariants as classes
 use Rattle.ti_values.specs.Controls.{Found, counted}
 use Rattle.ti_values.specs.Outputs.{AreArmsFound, AreOutputs, AreSamples, plain_found}
+use Rattle.ti_values.specs.Samples.{few_samples}
 use Rattle.ti_values.specs.Screens.{tried_texts}
 use Rattle.ti_values.specs.declared.range.Range.{Range}
 use Rattle.ti_values.specs.declared.samples.Sample.{Sample}
 use Rattle.ti_words.specs.Texts.{TextOf, TextValue}
 use Rattle.ti_words.specs.Value.{EntryValue}
-use Rattle.ti_report.specs.declared.finding.Finding.TheVariants.{Control}
-use Rattle.ti_report.specs.Lines.{AreAll}
+use Rattle.ti_report.specs.declared.finding.Finding.{Finding}
+use Rattle.ti_report.specs.declared.finding.Finding.TheVariants.{Control, OpenLine}
+use Rattle.ti_report.specs.Lines.{AreAll, InTurn}
 use Rattle.ti_report.specs.Remarks.{Function, OfText, Remark}
-use Rattle.ti_report.specs.Subjects.{KnownText, known_texts}
+use Rattle.ti_report.specs.Subjects.{KnownText, UnknownText, known_texts, unknown_texts}
 use Rattle.ti_report.specs.Values.{number_named, text_named}
 
 -- ---- the terminal
@@ -77,6 +80,11 @@ range_in ((known, range) ∷ rest) name = if bytes_eq known name then Some range
 
 -- ---- the remarks on a text
 
+-- a string that is left open stands in its place, but lacks what ends it
+abbrev pub control_finding : List ℕ → Effect → Finding
+control_finding name OpenString = if may_stand OpenString name then OpenLine else Control OpenString
+control_finding name effect = Control effect
+
 -- one for each effect, at the token that writes the introducer
 abbrev pub on_counted : List ℕ → List ℕ → Option Found → List Remark
 on_counted name text None = []
@@ -84,7 +92,7 @@ on_counted name text (Some found) =
     record {
       about = OfText name text;
       places = found.place ∷ [];
-      finding = Control found.effect;
+      finding = control_finding name found.effect;
       evidence = Function found.label found.content found.purpose;
     } ∷ []
 
@@ -109,14 +117,17 @@ AreControlsAt untrusted place range text remarks =
 abbrev pub AreCapabilityControls : Terminal → List ℕ → List ℕ → List Remark → Type 0
 AreCapabilityControls t name text = AreControlsAt t.untrusted (place_in t name) (range_in t.rows name) text
 
--- a text that is no capability is told as such elsewhere
-abbrev pub AreTriedControls : Terminal → List ℕ → List ℕ → List Remark → Type 0
-AreTriedControls t name text remarks =
-    ((refused : CapRefused) × IsRefusal text refused × (remarks ≡ []))
-    ⊎ (IsFaultless text × AreCapabilityControls t name text remarks)
-
 abbrev pub plain_controls : Terminal → List ℕ → List ℕ → List Remark
 plain_controls t name text = control_remarks name text (plain_found (place_in t name) text ∷ []) []
+
+-- the remarks on a text: as it stands if it is no capability
+abbrev pub AreControlsIf : Terminal → List ℕ → List ℕ → (List Remark → Type 0) → List Remark → Type 0
+AreControlsIf t name text AreOfCapability remarks =
+    ((refused : CapRefused) × IsRefusal text refused × (remarks ≡ plain_controls t name text))
+    ⊎ (IsFaultless text × AreOfCapability remarks)
+
+abbrev pub AreTriedControls : Terminal → List ℕ → List ℕ → List Remark → Type 0
+AreTriedControls t name text = AreControlsIf t name text (AreCapabilityControls t name text)
 
 -- a text of a class, if it is sent
 abbrev pub AreControlsIn : Bool → Terminal → Class → List ℕ → List ℕ → List Remark → Type 0
@@ -127,6 +138,25 @@ AreControlsIn sent t class name text = λ remarks. remarks ≡ []
 abbrev pub AreControlsOf : Terminal → KnownText → List Remark → Type 0
 AreControlsOf t text = AreControlsIn (is_sent text.name) t text.class text.name text.text
 
--- all texts
+-- ---- a text of which nothing is known
+
+-- a program may send it as it stands, or expand it
+abbrev pub AreUnknownFound : Bool → Place → List ℕ → List Found → Type 0
+AreUnknownFound untrusted place text found =
+    (plain : List Found) × ArePlainFound untrusted place text plain × (found ≡ plain_found place text ++ plain)
+
+abbrev pub AreUnknownAt : Bool → Place → List ℕ → List Remark → Type 0
+AreUnknownAt untrusted place text remarks =
+    (outputs : List (List Found)) × (found : List Found) × AreOutputs place text few_samples outputs
+    × AreUnknownFound untrusted place text found × (remarks ≡ control_remarks place.capability text outputs found)
+
+abbrev pub AreUnknownControls : Terminal → UnknownText → List Remark → Type 0
+AreUnknownControls t u = AreControlsIf t u.name u.text (AreUnknownAt t.untrusted (place_in t u.name) u.text)
+
+-- ---- all texts
+
+abbrev pub AreControlsBy : Terminal → EntryValue → List Remark → Type 0
+AreControlsBy t v = InTurn (AreAll (AreControlsOf t) (known_texts v)) (AreAll (AreUnknownControls t) (unknown_texts v))
+
 abbrev pub AreControlRemarks : Bool → EntryValue → List Remark → Type 0
-AreControlRemarks untrusted v = AreAll (AreControlsOf (terminal_of untrusted v)) (known_texts v)
+AreControlRemarks untrusted v = AreControlsBy (terminal_of untrusted v) v

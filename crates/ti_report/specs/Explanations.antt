@@ -4,6 +4,7 @@ use Rattle.std.specs.List.{list_all}
 use Rattle.std.specs.Str.{bytes_eq}
 use Rattle.ti_control.specs.declared.effect.Effect.TheVariants.{Answer, Report, Title, Clipboard, Print, Palette, Window, Reset, OtherControl, OpenString}
 use Rattle.ti_escape.specs.Laws.{is_printable}
+use Rattle.ti_cap.specs.declared.language.CapFault.TheVariants.{UnknownEscape}
 use Rattle.ti_lint.specs.declared.token_finding.TokenFinding.TheVariants.{StackUnderflow, TermcapParameter, StackResidue, ParameterRange, RepeatedIncrement, UnusedIncrement, LateIncrement, UnsetVariable, DeadStore, OperandType, NoEffect, ConstantCondition, RepeatedCondition}
 use Rattle.ti_report.specs.Findings.{finding_word}
 use Rattle.ti_report.specs.declared.finding.Finding.{Finding}
@@ -24,7 +25,7 @@ IsExplanation word text = (take (length word + 1) text ≡ word ++ codes "\n") �
 -- one finding of each word, in the order of the manual
 unfoldable pub explained : List Finding
 explained =
-    Malformed ∷ Token StackUnderflow ∷ Token TermcapParameter ∷ Token StackResidue ∷ Token ParameterRange ∷ UnusedParameter ∷
+    Malformed UnknownEscape ∷ Token StackUnderflow ∷ Token TermcapParameter ∷ Token StackResidue ∷ Token ParameterRange ∷ UnusedParameter ∷
     Token RepeatedIncrement ∷ Token UnusedIncrement ∷ Token LateIncrement ∷ Token UnsetVariable ∷ Token DeadStore ∷
     Token OperandType ∷ Token NoEffect ∷ Token ConstantCondition ∷ Token RepeatedCondition ∷ EmptyOutput ∷ SameOutput ∷
     NegativeNumber ∷ IgnoredAttribute ∷ DifferingAttribute ∷ Combination ∷ ShownText ∷ UnendedSequence ∷ OriginDiffers ∷

@@ -22,6 +22,7 @@ pub mod Whole
 pub mod Values
 pub mod Trials
 pub mod Coverages
+pub mod Splits
 pub mod Sequences
 pub mod Actions
 pub mod NameBytes

@@ -1,6 +1,5 @@
 -- What is found in an entry: remarks, each on a text, on two texts, on a name or on the whole entry.
 use Rattle.std.specs.Prelude.{ℕ, ℤ, List, [], ◌∷◌}
-use Rattle.ti_cap.specs.declared.language.CapFault.{CapFault}
 use Rattle.ti_cap.specs.declared.parameter_set.ParameterSet.{ParameterSet}
 use Rattle.ti_report.specs.declared.finding.Finding.{Finding}
 use Rattle.ti_values.specs.declared.tried.Tried.{Tried}
@@ -12,11 +11,10 @@ pub data About : Type 0 where
   OfText : List ℕ → List ℕ → About
   OfTwo : List ℕ → List ℕ → List ℕ → List ℕ → About
 
--- what a sentence has beside the words of its finding: a fault, a number, parameters, values with what is sent for them, an
+-- what a sentence has beside the words of its finding: a number, parameters, values with what is sent for them, an
 -- attribute, by the name of its text, with a set of attributes; or a control function: its introducer, its content, and what it is for
 pub data Evidence : Type 0 where
   NoEvidence : Evidence
-  Fault : CapFault → Evidence
   Last : ℕ → Evidence
   Value : ℤ → Evidence
   Parameters : ParameterSet → Evidence

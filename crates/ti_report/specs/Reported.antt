@@ -1,10 +1,10 @@
 -- Which of the remarks that were found are reported.
-use Rattle.std.specs.Prelude.{◌&&◌, ◌||◌, ◌==◌, ℕ, Bool, true, false, List, length, not, map}
+use Rattle.std.specs.Prelude.{◌≡◌, ◌&&◌, ◌||◌, ◌==◌, ℕ, Bool, true, false, List, length, not, map}
 use Rattle.std.specs.List.{filter, list_any}
 use Rattle.std.specs.Str.{bytes_eq}
 use Rattle.ti_lint.specs.declared.level.Level.{Level}
 use Rattle.ti_lint.specs.declared.level.Level.TheVariants as levels
-use Rattle.ti_report.specs.Findings.{finding_row, finding_word}
+use Rattle.ti_report.specs.Findings.{finding_row, finding_word, is_harm}
 use Rattle.ti_report.specs.Remarks.{About, OfText, Remark}
 
 -- what a remark is about, and its word
@@ -41,3 +41,12 @@ is_reported level heads r = (is_all level || not (finding_row r.finding).only_al
 
 abbrev pub reported : Level → List Remark → List Remark
 reported level found = filter (is_reported level (map head found)) found
+
+-- ---- harm
+
+abbrev pub harmful : List Remark → List Remark
+harmful remarks = filter (λ r. is_harm r.finding) remarks
+
+-- all that was found of it is reported, whatever else was found and whatever the level is
+abbrev pub HarmIsReported : Type 0
+HarmIsReported = (level : Level) (found : List Remark) → harmful (reported level found) ≡ harmful found

@@ -4,7 +4,6 @@ use Rattle.std.specs.Fmt.{signed_decimal}
 use Rattle.std.specs.Int.{bit_at}
 use Rattle.ti_base.specs.Letters.{letter}
 use Rattle.ti_cap.specs.declared.parameter_set.ParameterSet.{ParameterSet}
-use Rattle.ti_cap.specs.FaultNames.{cap_fault_word}
 use Rattle.ti_escape.specs.Forms.{shown}
 use Rattle.ti_escape.specs.Notation.{label_notation}
 use Rattle.ti_escape.specs.declared.form.Form.TheVariants as forms
@@ -12,7 +11,7 @@ use Rattle.ti_values.specs.declared.tried.Tried.{Tried}
 use Rattle.ti_values.specs.declared.tried.Tried.TheVariants.{Number, Two, Attributes}
 use Rattle.ti_report.specs.declared.finding.Finding.{Finding}
 use Rattle.ti_report.specs.Findings.{finding_sentence}
-use Rattle.ti_report.specs.Remarks.{Evidence, Fault, Last, Value, Parameters, For, Sent, SentForTwo, Attribute, Lacking, Function}
+use Rattle.ti_report.specs.Remarks.{Evidence, Last, Value, Parameters, For, Sent, SentForTwo, Attribute, Lacking, Function}
 
 -- bit N - 1 is for parameter N
 abbrev pub is_in : ParameterSet → ℕ → Bool
@@ -33,9 +32,14 @@ value_words (Two first second) = codes "for " ++ (decimal first ++ (codes " " ++
 value_words (Attributes set) =
     if set == 0 then codes "for no attribute" else codes "for" ++ parameter_words (record { mask = set }) 9 1
 
+-- what is sent
+abbrev pub output_words : List ℕ → List ℕ
+output_words [] = codes " it sends nothing"
+output_words (byte ∷ rest) = codes " it sends " ++ shown forms.Notation (byte ∷ rest)
+
 -- the values, and what is sent for them
 abbrev pub sent_words : Tried → List ℕ → List ℕ
-sent_words value sent = value_words value ++ (codes " it sends " ++ shown forms.Notation sent)
+sent_words value sent = value_words value ++ output_words sent
 
 -- the content of a control function after its introducer, if it has one
 abbrev pub content_words : List ℕ → List ℕ
@@ -64,7 +68,6 @@ before _ = []
 
 -- and after them
 abbrev pub after : Evidence → List ℕ
-after (Fault fault) = cap_fault_word fault
 after (Value value) = signed_decimal value
 after (Parameters set) = parameter_words set 9 1
 after (Attribute name set) = label_notation name

@@ -6,14 +6,14 @@ use Rattle.ti_values.specs.Sequences.{HasUnended}
 use Rattle.ti_words.specs.Value.{EntryValue}
 use Rattle.ti_report.specs.Lines.{AreAll}
 use Rattle.ti_report.specs.Remarks.{NoEvidence, Remark, on_values}
-use Rattle.ti_report.specs.declared.finding.Finding.TheVariants.{UnendedText}
+use Rattle.ti_report.specs.Splits.{text_finding}
 use Rattle.ti_report.specs.Subjects.{KnownText, known_texts}
 use Rattle.ti_report.specs.Values.{is_ansi_entry}
 
 -- a text
 abbrev pub IsSequenceReport : List ℕ → List ℕ → List Remark → Type 0
 IsSequenceReport name text remarks =
-    (HasUnended text × (remarks ≡ on_values name text UnendedText NoEvidence)) ⊎ ((¬ HasUnended text) × (remarks ≡ []))
+    (HasUnended text × (remarks ≡ on_values name text (text_finding text) NoEvidence)) ⊎ ((¬ HasUnended text) × (remarks ≡ []))
 
 -- a text of terminfo(5) that is sent as it stands, to a terminal of ECMA-48
 abbrev pub IsSequenceIn : Bool → Bool → Class → List ℕ → List ℕ → List Remark → Type 0

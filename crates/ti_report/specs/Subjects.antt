@@ -1,5 +1,5 @@
 -- The texts of an entry: what they are, and what they are called in findings.
-use Rattle.std.specs.Prelude.{ℕ, Bool, true, false, List, [], ◌∷◌, Option, Some}
+use Rattle.std.specs.Prelude.{ℕ, Bool, true, false, List, [], ◌∷◌, Option, Some, None}
 use Rattle.std.specs.List.{flat_map}
 use Rattle.ti_words.specs.Items.{ExtendedSubject, Listed, StandardSubject, SubjectValue, items, text_in}
 use Rattle.ti_words.specs.Value.{EntryValue}
@@ -39,3 +39,19 @@ known_text (subject, item) = known_as subject (subject_class subject) (text_in i
 -- those of an entry, in the order of its capabilities
 abbrev pub known_texts : EntryValue → List KnownText
 known_texts v = flat_map known_text (items v)
+
+-- a text that is there and of which it is not known what it is: its name and its bytes
+pub record UnknownText : Type 0 where
+  pub name : List ℕ
+  pub text : List ℕ
+
+abbrev pub unknown_as : SubjectValue → Option Class → Option (List ℕ) → List UnknownText
+unknown_as subject None (Some text) = record { name = subject_name subject; text = text } ∷ []
+unknown_as subject class text = []
+
+abbrev pub unknown_text : Listed → List UnknownText
+unknown_text (subject, item) = unknown_as subject (subject_class subject) (text_in item)
+
+-- those of an entry, in the same order
+abbrev pub unknown_texts : EntryValue → List UnknownText
+unknown_texts v = flat_map unknown_text (items v)

@@ -19,7 +19,7 @@ use Rattle.ti_lint.specs.TextParameters.{text_parameters}
 use Rattle.ti_report.specs.declared.usage.Usage.{Usage}
 use Rattle.ti_report.specs.declared.finding.Finding.{Finding}
 use Rattle.ti_report.specs.declared.finding.Finding.TheVariants as findings
-use Rattle.ti_report.specs.Remarks.{Evidence, Fault, Last, NoEvidence, Parameters, TextRemark, placed, unplaced}
+use Rattle.ti_report.specs.Remarks.{Evidence, Last, NoEvidence, Parameters, TextRemark, placed, unplaced}
 use Rattle.ti_report.specs.Constants.{IsTestsReport}
 use Rattle.ti_report.specs.Lines.{AreReports, InTurn}
 use Rattle.ti_report.specs.Marks.{AreMarked, ArePlacesFrom, ArePlacesOf, IsSought, first_place}
@@ -105,7 +105,7 @@ IsFindingsReport usage parameters text remarks =
 abbrev pub IsCapabilityReport : Usage → ℕ → List ℕ → List TextRemark → Type 0
 IsCapabilityReport usage parameters text remarks =
     ((refused : CapRefused) × IsRefusal text refused
-    × (remarks ≡ placed (refused.place ∷ []) findings.Malformed (Fault refused.fault)))
+    × (remarks ≡ placed (refused.place ∷ []) (findings.Malformed refused.fault) NoEvidence))
     ⊎ (IsFaultless text × IsFindingsReport usage parameters text remarks)
 
 -- ---- other texts

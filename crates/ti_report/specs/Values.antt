@@ -26,6 +26,7 @@ use Rattle.ti_report.specs.Lines.{AreReports, InTurn}
 use Rattle.ti_report.specs.Remarks.{Attribute, Evidence, For, Lacking, NoEvidence, Remark, Sent, SentForTwo, on_values}
 use Rattle.ti_report.specs.declared.finding.Finding.{Finding}
 use Rattle.ti_report.specs.declared.finding.Finding.TheVariants as findings
+use Rattle.ti_report.specs.Splits.{sequence_finding}
 use Rattle.ti_report.specs.Whole.{has}
 
 -- ---- what an entry has
@@ -104,10 +105,16 @@ IsShownReport t = IsSentReport (IsShownAt t.sent) findings.ShownText t
 abbrev pub IsCombinationReport : Trial → List Remark → Type 0
 IsCombinationReport t = IsSentReport (IsCombinationAt t.sent) findings.Combination t
 
+-- which finding it is, by what is sent
+abbrev pub unended_finding : Trial → Option ℕ → Finding
+unended_finding t None = findings.UnendedSequence
+unended_finding t (Some k) = sequence_finding (sent_at t.sent k)
+
 -- only of a terminal of ECMA-48
 abbrev pub IsUnendedReport : Bool → Trial → List Remark → Type 0
 IsUnendedReport false t = λ remarks. remarks ≡ []
-IsUnendedReport true t = IsSentReport (IsUnendedAt t.sent) findings.UnendedSequence t
+IsUnendedReport true t = λ remarks.
+    (found : Option ℕ) × IsFirstOf (IsUnendedAt t.sent) found × (remarks ≡ remark_of t (unended_finding t found) (sent_evidence t) found)
 
 -- an attribute whose text is there, and which `sgr` ignores
 abbrev pub ignored_if : Bool → Trial → List ℕ → ℕ → List Remark

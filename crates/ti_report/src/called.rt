@@ -5,12 +5,13 @@ ghost use Rattle.ti_report.specs.Explanations.{IsUnknown, explained, finding_cal
 ghost use Rattle.ti_report.specs.Findings.{finding_word};
 
 use crate::finding::Finding;
+use ti_cap::CapFault;
 use ti_control::Effect;
 use ti_lint::TokenFinding;
 
 /// One finding of each word, in the order of ti-findings(7).
 static EXPLAINED: [Finding; 55] = [
-    Finding::Malformed,
+    Finding::Malformed(CapFault::UnknownEscape),
     Finding::Token(TokenFinding::StackUnderflow),
     Finding::Token(TokenFinding::TermcapParameter),
     Finding::Token(TokenFinding::StackResidue),

@@ -7,24 +7,26 @@ ghost use Rattle.ti_control.specs.Parts.{place_at};
 ghost use Rattle.ti_values.specs.inner.Founds.{found_held, founds_held, outputs_held};
 ghost use Rattle.ti_values.specs.inner.Rows.{row_of};
 ghost use Rattle.ti_words.specs.Texts.{text_value};
-ghost use Rattle.ti_report.specs.Controls.{AreCapabilityControls, AreControlRemarks, AreControlsOf, ArePlainFound, AreTriedControls, control_remarks, has_introducer, is_ecma_entry, is_ecma_text, on_counted, place_in, plain_controls, plain_text, range_in, sent_text, terminal_of};
+ghost use Rattle.ti_report.specs.Controls.{AreCapabilityControls, AreControlRemarks, AreControlsBy, AreControlsOf, ArePlainFound, AreTriedControls, AreUnknownAt, AreUnknownControls, AreUnknownFound, control_finding, control_remarks, has_introducer, is_ecma_entry, is_ecma_text, on_counted, place_in, plain_controls, plain_text, range_in, sent_text, terminal_of};
 ghost use Rattle.ti_report.specs.inner.Growing.{Gains, GainsThese};
-ghost use Rattle.ti_report.specs.inner.Held.{terminal_held, text_held};
+ghost use Rattle.ti_report.specs.inner.Held.{terminal_held, text_held, unknown_held};
+ghost use Rattle.ti_report.specs.Lines.{AreAll};
+ghost use Rattle.ti_report.specs.Subjects.{known_texts, unknown_texts as the_unknown_texts};
 
 use crate::finding::Finding;
 use crate::lookup::{number_named, text_named};
 use crate::remark::{About, Evidence, NamedText};
 use crate::report::Report;
-use crate::subject::KnownText;
+use crate::subject::{KnownText, unknown_texts};
 use crate::trials::{PlacedText, Trials};
 use std::alloc::{AllocError, Allocator};
 use ti_cap::Capability;
-use ti_control::{Place, SentByte, all_effects, ecma_capabilities, is_sent};
+use ti_control::{Effect, Place, SentByte, all_effects, ecma_capabilities, is_sent, may_stand};
 use ti_entry::Entry;
 use ti_names::Class;
 use ti_values::{
-    FoundFunction, Range, arms_found, counted, is_idle, outputs_for, plain_outputs, samples_of,
-    tried_over, tried_texts,
+    FoundFunction, Range, arms_found, counted, few_samples, is_idle, outputs_for, plain_found,
+    plain_outputs, samples_of, tried_over, tried_texts,
 };
 use ti_words::Text;
 
@@ -166,6 +168,33 @@ fn plain_found_if<A: Allocator + Copy>(
     Ok(found)
 }
 
+/// Returns the finding on a control function in the text with a name.
+fn control_finding(name: &[u8], effect: Effect) -> Finding
+    ensures { result ≡ control_finding name.now effect }
+{
+    match effect {
+        Effect::OpenString if may_stand(effect, name) => Finding::OpenLine,
+        _ => Finding::Control(effect),
+    }
+}
+
+/// Returns the functions found in a text as it stands, and then the same.
+fn unknown_found<A: Allocator + Copy>(
+    alloc: A,
+    untrusted: bool,
+    place: &Place<'_>,
+    capability: &Capability<'_>,
+    text: &[u8],
+) -> Result<Vec<FoundFunction<A>, A>, AllocError>
+    requires { capability.now ≡ text.now }
+    ensures { IfOk result (λ found. AreUnknownFound untrusted (place_at place.now) text.now (founds_held found.items)) }
+{
+    let mut found = plain_found(alloc, place, text)?;
+    let mut plain = plain_found_if(alloc, untrusted, place, capability)?;
+    found.append(&mut plain)?;
+    Ok(found)
+}
+
 impl<'r, 'a, A: Allocator + Copy> Report<'r, 'a, A> {
     /// Adds the remark on a control function, if there is one.
     fn push_function(
@@ -186,7 +215,7 @@ impl<'r, 'a, A: Allocator + Copy> Report<'r, 'a, A> {
         self.push(
             About::Text(*subject),
             places,
-            Finding::Control(found.effect),
+            control_finding(subject.name, found.effect),
             evidence,
         )?;
         Ok(())
@@ -294,7 +323,10 @@ impl<'r, 'a, A: Allocator + Copy> Report<'r, 'a, A> {
                 self.push_ranged_controls(trials, terminal, &capability, subject)?;
                 Ok(())
             }
-            Err(_) => Ok(()),
+            Err(_) => {
+                self.push_plain_controls(terminal, subject)?;
+                Ok(())
+            }
         }
     }
 
@@ -321,6 +353,86 @@ impl<'r, 'a, A: Allocator + Copy> Report<'r, 'a, A> {
         }
     }
 
+    /// Adds the remarks on a capability of which nothing is known, as it stands and for a few samples.
+    fn push_unknown_capability(
+        &mut self,
+        terminal: &Terminal<A>,
+        capability: &Capability<'_>,
+        subject: &NamedText<'a>,
+    ) -> Result<(), AllocError>
+        requires { capability.now ≡ subject.now.text.now }
+        ensures { OnOk result (Gains (AreUnknownAt (terminal_held terminal.now).untrusted
+            (place_in (terminal_held terminal.now) subject.now.name.now) subject.now.text.now) self.old self.new) }
+    {
+        let alloc = self.allocator();
+        let place = place_in(terminal, subject.name);
+        let outputs = outputs_for(alloc, &place, capability, &few_samples())?;
+        let found = unknown_found(alloc, terminal.untrusted, &place, capability, subject.text)?;
+        self.push_counted(subject, outputs.as_slice(), found.as_slice())?;
+        Ok(())
+    }
+
+    /// Adds the remarks on a text of which nothing is known.
+    fn push_unknown(
+        &mut self,
+        terminal: &Terminal<A>,
+        subject: &NamedText<'a>,
+    ) -> Result<(), AllocError>
+        ensures { OnOk result (Gains (AreUnknownControls (terminal_held terminal.now) (unknown_held subject.now))
+            self.old self.new) }
+    {
+        match Capability::parse(subject.text) {
+            Ok(capability) => {
+                self.push_unknown_capability(terminal, &capability, subject)?;
+                Ok(())
+            }
+            Err(_) => {
+                self.push_plain_controls(terminal, subject)?;
+                Ok(())
+            }
+        }
+    }
+
+    /// Adds the remarks on all texts of which it is known what they are.
+    fn push_known_controls(
+        &mut self,
+        trials: &mut Trials<A>,
+        terminal: &Terminal<A>,
+    ) -> Result<(), AllocError>
+        ensures { OnOk result (Gains (AreAll (AreControlsOf (terminal_held terminal.now)) (known_texts self.old.on.entry))
+            self.old self.new) }
+    {
+        'texts: for text in self.texts() {
+            self.push_controls_of(trials, terminal, text)?;
+        }
+        Ok(())
+    }
+
+    /// Adds the remarks on all others.
+    fn push_unknown_controls(&mut self, terminal: &Terminal<A>) -> Result<(), AllocError>
+        ensures { OnOk result (Gains (AreAll (AreUnknownControls (terminal_held terminal.now))
+            (the_unknown_texts self.old.on.entry)) self.old self.new) }
+    {
+        let texts = unknown_texts(self.allocator(), self.entry())?;
+        'texts: for text in texts.as_slice() {
+            self.push_unknown(terminal, text)?;
+        }
+        Ok(())
+    }
+
+    /// Adds the remarks on all texts of an entry of the terminal.
+    fn push_controls_by(
+        &mut self,
+        trials: &mut Trials<A>,
+        terminal: &Terminal<A>,
+    ) -> Result<(), AllocError>
+        ensures { OnOk result (Gains (AreControlsBy (terminal_held terminal.now) self.old.on.entry) self.old self.new) }
+    {
+        self.push_known_controls(trials, terminal)?;
+        self.push_unknown_controls(terminal)?;
+        Ok(())
+    }
+
     /// Adds the remarks on control functions that may not stand in the text that sends them.
     pub fn push_controls(&mut self, trials: &mut Trials<A>) -> Result<(), AllocError>
         ensures { OnOk result (Gains (AreControlRemarks self.old.on.options.untrusted self.old.on.entry)
@@ -330,9 +442,7 @@ impl<'r, 'a, A: Allocator + Copy> Report<'r, 'a, A> {
         let untrusted = self.untrusted();
         let entry = self.entry();
         let terminal = terminal_of(alloc, untrusted, entry)?;
-        'texts: for text in self.texts() {
-            self.push_controls_of(trials, &terminal, text)?;
-        }
+        self.push_controls_by(trials, &terminal)?;
         Ok(())
     }
 }

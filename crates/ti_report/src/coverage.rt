@@ -7,7 +7,7 @@ ghost use Rattle.ti_values.specs.inner.Rows.{row_of};
 ghost use Rattle.ti_report.specs.Coverages.{AreCounts, IsCount, IsCoverage, IsTriedOver};
 
 use crate::lookup::{number_named, text_named};
-use crate::subject::known_texts;
+use crate::subject::{known_texts, unknown_texts};
 use std::alloc::{AllocError, Allocator};
 use ti_cap::Capability;
 use ti_entry::Entry;
@@ -17,8 +17,8 @@ use ti_words::Text;
 /// How much of an entry a report looks at.
 #[derive(Clone, Copy, Debug, PartialEq, Eq)]
 pub struct Coverage {
-    /// The strings of which it is known what they are.
-    pub strings: usize,
+    /// The strings.
+    pub strings: u128,
     /// Those of them that are tried over values.
     pub tried: usize,
     /// Over how many values they are tried together.
@@ -76,9 +76,10 @@ pub fn coverage_of<A: Allocator + Copy>(alloc: A, entry: &Entry<'_>) -> Result<C
     let columns = number_named(entry, "cols");
     let colors = number_named(entry, "colors");
     let texts = known_texts(alloc, entry)?;
+    let others = unknown_texts(alloc, entry)?;
     let (tried, values) = counts_of(alloc, entry, &tried_texts(lines, columns, colors))?;
     Ok(Coverage {
-        strings: texts.len(),
+        strings: widened(texts.len()) + widened(others.len()),
         tried,
         values,
     })

@@ -34,6 +34,7 @@ mod reported;
 mod sent;
 mod sentence;
 mod sequences;
+mod splits;
 mod stored;
 mod subject;
 mod text_remarks;

@@ -3,7 +3,7 @@
 use crate::finding::Finding;
 use std::alloc::{AllocError, Allocator};
 use std::marker::Model;
-use ti_cap::{CapFault, ParameterSet};
+use ti_cap::ParameterSet;
 use ti_values::Tried;
 
 /// A text and its name.
@@ -26,8 +26,6 @@ pub enum About<'a> {
 #[derive(Drop)]
 pub enum Evidence<A: Allocator> {
     None,
-    /// Why a text is no capability.
-    Fault(CapFault),
     /// The last parameter by terminfo(5).
     Last(u8),
     /// The value of a test.
@@ -58,7 +56,6 @@ impl<A: Allocator + Copy> Evidence<A> {
     {
         Ok(match self {
             Evidence::None => Evidence::None,
-            Evidence::Fault(fault) => Evidence::Fault(*fault),
             Evidence::Last(parameter) => Evidence::Last(*parameter),
             Evidence::Value(value) => Evidence::Value(*value),
             Evidence::Parameters(set) => Evidence::Parameters(*set),

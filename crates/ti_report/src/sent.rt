@@ -10,6 +10,7 @@ ghost use Rattle.ti_report.specs.inner.Held.{trial_held};
 use crate::finding::Finding;
 use crate::remark::{Evidence, NamedText};
 use crate::report::Report;
+use crate::splits::sequence_finding;
 use std::alloc::{AllocError, Allocator};
 use ti_cap::Capability;
 use ti_values::{Tried, first_empty, first_negative, first_same, first_unended, sent_at};
@@ -26,7 +27,7 @@ impl<'t, 'a, A: Allocator + Copy> Trial<'t, 'a, A> {
     ghost use Rattle.std.specs.Prelude.{◌≡◌, IfOk};
     ghost use Rattle.ti_values.specs.Findings.{sent_at as the_sent_at};
     ghost use Rattle.ti_values.specs.Sent.{texts_of};
-    ghost use Rattle.ti_report.specs.Values.{tried_at};
+    ghost use Rattle.ti_report.specs.Values.{tried_at, unended_finding};
     ghost use Rattle.ti_report.specs.inner.Held.{trial_held};
 
     /// The value at a place.
@@ -37,6 +38,16 @@ impl<'t, 'a, A: Allocator + Copy> Trial<'t, 'a, A> {
             return self.tried[place];
         }
         Tried::Number(0)
+    }
+
+    /// The finding on a sequence that is not ended, at the place.
+    fn unended_finding(&self, found: Option<usize>) -> Finding
+        ensures { result ≡ unended_finding (trial_held self.now) found }
+    {
+        match found {
+            Some(place) => sequence_finding(sent_at(self.sent, place)),
+            None => Finding::UnendedSequence,
+        }
     }
 
     /// A copy of what is sent for it.
@@ -125,7 +136,7 @@ impl<'r, 'a, A: Allocator + Copy> Report<'r, 'a, A> {
     {
         if self.is_ansi() {
             let found = first_unended(trial.sent);
-            return self.push_sent(trial, Finding::UnendedSequence, found);
+            return self.push_sent(trial, trial.unended_finding(found), found);
         }
         Ok(())
     }

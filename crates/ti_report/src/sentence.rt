@@ -5,7 +5,7 @@ ghost use Rattle.std.specs.Fmt.{signed_decimal};
 ghost use Rattle.ti_escape.specs.Forms.{shown};
 ghost use Rattle.ti_escape.specs.Notation.{label_notation};
 ghost use Rattle.ti_escape.specs.declared.form.Form.TheVariants as forms;
-ghost use Rattle.ti_report.specs.Sentences.{after, before, called_words, content_words, function_words, is_in, meaning, parameter_words, sent_words, value_words};
+ghost use Rattle.ti_report.specs.Sentences.{after, before, called_words, content_words, function_words, is_in, meaning, output_words, parameter_words, sent_words, value_words};
 ghost use Rattle.ti_report.specs.inner.Held.{evidence_held};
 
 use crate::finding::Finding;
@@ -78,6 +78,17 @@ fn push_value<A: Allocator>(out: &mut Vec<u8, A>, tried: Tried) -> Result<(), Al
     }
 }
 
+/// Writes what is sent.
+fn push_output<A: Allocator>(out: &mut Vec<u8, A>, sent: &[u8]) -> Result<(), AllocError>
+    ensures { OnOk result (out.new.items ≡ out.old.items ++ output_words sent.now) }
+{
+    if sent.is_empty() {
+        return out.extend_from_slice(b" it sends nothing");
+    }
+    out.extend_from_slice(b" it sends ")?;
+    push_shown(out, Form::Notation, sent)
+}
+
 /// Writes the values of a try, and what is sent for them.
 fn push_sent<A: Allocator>(
     out: &mut Vec<u8, A>,
@@ -87,8 +98,7 @@ fn push_sent<A: Allocator>(
     ensures { OnOk result (out.new.items ≡ out.old.items ++ sent_words tried sent.now) }
 {
     push_value(out, tried)?;
-    out.extend_from_slice(b" it sends ")?;
-    push_shown(out, Form::Notation, sent)
+    push_output(out, sent)
 }
 
 /// Writes the values of two tries, and what is sent for both.
@@ -213,7 +223,6 @@ fn push_after<A: Allocator, B: Allocator>(
     ensures { OnOk result (out.new.items ≡ out.old.items ++ after (evidence_held evidence.now)) }
 {
     match evidence {
-        Evidence::Fault(fault) => out.extend_from_slice(fault.word().as_bytes()),
         Evidence::Value(value) => push_test_value(out, *value),
         Evidence::Parameters(set) => push_parameters(out, *set),
         Evidence::Attribute(name, _) => push_label(out, name.as_bytes()),

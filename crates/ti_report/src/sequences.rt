@@ -5,9 +5,9 @@ ghost use Rattle.ti_report.specs.Sequences.{AreSequenceRemarks, IsSequenceOf, Is
 ghost use Rattle.ti_report.specs.inner.Growing.{Gains};
 ghost use Rattle.ti_report.specs.inner.Held.{text_held};
 
-use crate::finding::Finding;
 use crate::remark::{Evidence, NamedText};
 use crate::report::Report;
+use crate::splits::text_finding;
 use crate::subject::KnownText;
 use std::alloc::{AllocError, Allocator};
 use ti_names::Class;
@@ -20,7 +20,7 @@ impl<'r, 'a, A: Allocator + Copy> Report<'r, 'a, A> {
             subject.now.text.now) self.old self.new) }
     {
         if has_unended(subject.text) {
-            self.push_on_values(subject, Finding::UnendedText, Evidence::None)?;
+            self.push_on_values(subject, text_finding(subject.text), Evidence::None)?;
             return Ok(());
         }
         Ok(())

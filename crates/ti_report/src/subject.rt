@@ -1,9 +1,9 @@
-//! The texts of an entry of which it is known what they are.
+//! The texts of an entry: those of which it is known what they are, and the others.
 
 ghost use Rattle.std.specs.Prelude.{◌≡◌, ◌++◌, IfOk, OnOk};
 ghost use Rattle.ti_words.specs.Items.{item_value, subject_value};
-ghost use Rattle.ti_report.specs.Subjects.{is_standard as the_is_standard, known_text, known_texts as the_known_texts, subject_class as the_subject_class, subject_name as the_subject_name};
-ghost use Rattle.ti_report.specs.inner.Held.{texts_held};
+ghost use Rattle.ti_report.specs.Subjects.{is_standard as the_is_standard, known_text, known_texts as the_known_texts, subject_class as the_subject_class, subject_name as the_subject_name, unknown_text, unknown_texts as the_unknown_texts};
+ghost use Rattle.ti_report.specs.inner.Held.{texts_held, unknowns_held};
 
 use crate::pairs::standard_label;
 use crate::remark::NamedText;
@@ -83,6 +83,37 @@ pub fn known_texts<'a, A: Allocator>(
     let mut items = entry.items();
     'items: while let Some((subject, item)) = items.next() {
         add_text(&mut texts, subject, item)?;
+    }
+    Ok(texts)
+}
+
+/// Adds a capability, if it is a text of which it is not known what it is.
+fn add_unknown<'a, A: Allocator>(
+    texts: &mut Vec<NamedText<'a>, A>,
+    subject: Subject<'a>,
+    item: Item<'a>,
+) -> Result<(), AllocError>
+    ensures { OnOk result (unknowns_held texts.new.items
+        ≡ unknowns_held texts.old.items ++ unknown_text (subject_value subject.entry, item_value item.entry)) }
+{
+    if let (None, Some(text)) = (subject_class(subject), item.text()) {
+        let name = subject_name(subject);
+        texts.push(NamedText { name, text })?;
+    }
+    Ok(())
+}
+
+/// The texts of an entry of which it is not known what they are, in the order of its capabilities.
+pub fn unknown_texts<'a, A: Allocator>(
+    alloc: A,
+    entry: &Entry<'a>,
+) -> Result<Vec<NamedText<'a>, A>, AllocError>
+    ensures { IfOk result (λ texts. unknowns_held texts.items ≡ the_unknown_texts entry.now) }
+{
+    let mut texts = Vec::new(alloc);
+    let mut items = entry.items();
+    'items: while let Some((subject, item)) = items.next() {
+        add_unknown(&mut texts, subject, item)?;
     }
     Ok(texts)
 }

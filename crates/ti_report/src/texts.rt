@@ -3,7 +3,7 @@
 ghost use Rattle.std.specs.Prelude.{◌≡◌, ◌++◌, ◌∷◌, [], IfOk, OnOk, if◌then◌else◌, option_to_list};
 ghost use Rattle.ti_report.specs.Constants.{IsTestsReport};
 ghost use Rattle.ti_report.specs.Lines.{Adds, AreReports, InTurn};
-ghost use Rattle.ti_report.specs.Remarks.{Fault, NoEvidence, placed, unplaced};
+ghost use Rattle.ti_report.specs.Remarks.{NoEvidence, placed, unplaced};
 ghost use Rattle.ti_report.specs.inner.Held.{evidence_held};
 ghost use Rattle.ti_report.specs.Texts.{AreUnused, IsCapabilityReport, IsEscapeReport, IsFindingReport, IsFindingsReport, IsJudged, IsKeyReport, IsPercentReport, IsPlacesReport, IsPlainReport, IsUnusedReport, all_findings, are_long, delay_remarks, empty_key, evidence_of as the_evidence, expected_in, half_paired, unused_finding, unused_remarks};
 
@@ -167,11 +167,11 @@ impl<A: Allocator + Copy> TextRemarks<A> {
     /// Adds the remark on a text that is no capability.
     fn push_malformed(&mut self, refused: CapRefused) -> Result<(), AllocError>
         ensures { OnOk result (self.new
-            ≡ self.old ++ placed (refused.place ∷ []) Finding.Malformed (Fault refused.fault)) }
+            ≡ self.old ++ placed (refused.place ∷ []) (Finding.Malformed refused.fault) NoEvidence) }
     {
         let mut places = Vec::new(self.allocator());
         places.push(refused.place)?;
-        self.push_at(places, Finding::Malformed, Evidence::Fault(refused.fault))
+        self.push_at(places, Finding::Malformed(refused.fault), Evidence::None)
     }
 
     /// Adds the remarks on a text with parameters.

@@ -168,8 +168,8 @@ refused_told (Some front) e r kept bytes line told = told
 front_advised : (has_advice : Bool) (e : EntryAction) (bytes : List ℕ) (why : ToolFault) (advice : List ℕ) → IsAdvised (hints has_advice (take most_front bytes)) (Entry e) bytes why advice
     → IsAdvised (hints has_advice bytes) (Entry e) bytes why advice
 front_advised false e bytes why advice is = is
-front_advised true (of_entry.Expand x) bytes (fault.Entry r) advice is = is ∙ ap indented (sentence_by_front bytes r.fault)
-front_advised true e bytes (fault.Entry r) advice is = is ∙ ap indented (sentence_by_front bytes r.fault)
+front_advised true (of_entry.Expand x) bytes (fault.Entry r) advice is = is ∙ ap indented (sentence_by_front bytes r.fault r.place)
+front_advised true e bytes (fault.Entry r) advice is = is ∙ ap indented (sentence_by_front bytes r.fault r.place)
 front_advised true e bytes (fault.Encode encode.NumberOutOfRange) advice is = is
 front_advised true e bytes why advice is = is
 

@@ -23,9 +23,9 @@ by_front (a ∷ b ∷ c ∷ []) = refl
 by_front (a ∷ b ∷ c ∷ d ∷ bytes) = refl
 
 -- a sentence depends on the front alone
-pub sentence_by_front : (bytes : List ℕ) (fault : Fault) → entry_sentence (take most_front bytes) fault ≡ entry_sentence bytes fault
-sentence_by_front bytes entry.BadMagic = by_front bytes
-sentence_by_front bytes fault = refl
+pub sentence_by_front : (bytes : List ℕ) (fault : Fault) (place : ℕ) → entry_sentence (take most_front bytes) fault place ≡ entry_sentence bytes fault place
+sentence_by_front bytes entry.BadMagic place = by_front bytes
+sentence_by_front bytes fault place = refl
 
 -- ---- what is read of a source with a new reader
 

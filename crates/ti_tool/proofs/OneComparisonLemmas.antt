@@ -18,7 +18,7 @@ one_refused : (has_advice : Bool) (name contents out outs line lines : List ℕ)
 one_refused has_advice name contents out outs line lines status code (r, refuses, none, is, s) (q, also, empty, same, t) =
     let both : Some r ≡ Some q = sym refuses ∙ also in
     let one : r ≡ q = cc in
-    (none ∙ sym empty, is ∙ ap (λ (x : Refused). file_line name (fault_line (fault.Entry x) ++ refusal_advice has_advice contents x.fault)) one ∙ sym same, s ∙ sym t)
+    (none ∙ sym empty, is ∙ ap (λ (x : Refused). file_line name (fault_line (fault.Entry x) ++ refusal_advice has_advice contents x)) one ∙ sym same, s ∙ sym t)
 
 one_compared : (by : Likeness) (form : Comparison) (file other : List ℕ) (v w : EntryValue) (out outs line lines : List ℕ) (status code : ℕ) → AreCompared by form file other v w out line status → AreCompared by form file other v w outs lines code → AreOne out outs line lines status code
 one_compared by form file other v w out outs line lines status code (told, are, is, none, s) (others, also, same, empty, t) =

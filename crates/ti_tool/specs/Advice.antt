@@ -5,7 +5,6 @@ use Rattle.ti_cap.specs.declared.language.CapRefused.{CapRefused}
 use Rattle.ti_draft.specs.declared.fault.EncodeFault.TheVariants as encode
 use Rattle.ti_escape.specs.Notation.{column, notation}
 use Rattle.ti_layout.specs.Refusal.{refusal}
-use Rattle.ti_layout.specs.declared.fault.Fault.{Fault}
 use Rattle.ti_layout.specs.declared.fault.Refused.{Refused}
 use Rattle.ti_line.specs.declared.request.Action.{Action}
 use Rattle.ti_line.specs.declared.request.Action.TheVariants.{Capability, Entry, Source}
@@ -93,7 +92,7 @@ name_advice table name =
 
 -- of the contents of a refused file the front is known, or nothing
 abbrev pub any_advice : List ℕ → ToolFault → List ℕ
-any_advice front (fault.Entry refused) = indented (entry_sentence front refused.fault)
+any_advice front (fault.Entry refused) = indented (entry_sentence front refused.fault refused.place)
 any_advice front (fault.Encode unfit) = indented (encode_sentence unfit)
 any_advice front (fault.Source refused) = indented (notation_sentence refused.fault)
 any_advice front (fault.TooMuch need) = indented (codes "lower --rate or --lines")
@@ -124,6 +123,6 @@ hints true front = Some front
 hints false front = None
 
 -- of a refused file, of which the contents are known
-abbrev pub refusal_advice : Bool → List ℕ → Fault → List ℕ
-refusal_advice true contents fault = indented (entry_sentence contents fault)
-refusal_advice false contents fault = []
+abbrev pub refusal_advice : Bool → List ℕ → Refused → List ℕ
+refusal_advice true contents refused = indented (entry_sentence contents refused.fault refused.place)
+refusal_advice false contents refused = []

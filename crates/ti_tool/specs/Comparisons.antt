@@ -23,7 +23,7 @@ use Rattle.ti_tool.specs.Streams.{KnownFiles, Stream, Streams, file_name}
 abbrev pub IsRefusedFile : Bool → List ℕ → List ℕ → List ℕ → List ℕ → ℕ → Type 0
 IsRefusedFile has_advice name contents out line status =
     (refused : Refused) × (refusal contents ≡ Some refused) × (out ≡ [])
-    × (line ≡ file_line name (fault_line (fault.Entry refused) ++ refusal_advice has_advice contents refused.fault))
+    × (line ≡ file_line name (fault_line (fault.Entry refused) ++ refusal_advice has_advice contents refused))
     × (status ≡ 3)
 
 -- 1 if something is told

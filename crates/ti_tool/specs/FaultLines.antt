@@ -69,6 +69,9 @@ abbrev pub no_number_line : ℕ → ℕ → List ℕ
 no_number_line text which =
     codes "parameter " ++ decimal which ++ codes " of " ++ text_named text ++ codes ": no 32-bit number\n"
 
+abbrev pub only_numbers_line : ℕ → List ℕ
+only_numbers_line which = codes "parameter " ++ decimal which ++ codes ": no 32-bit number" ++ entry_hint true ++ codes "\n"
+
 -- the usage of `diff`, as its help has it
 abbrev pub diff_usage : List ℕ
 diff_usage = codes "; usage: ti diff [OPTIONS] [FILE] <OTHER>"
@@ -88,6 +91,7 @@ line_fault_line line.InputTwice = codes "diff: standard input cannot be compared
 line_fault_line (line.Words why) = words_line why
 line_fault_line (line.Surplus text takes given is_named) = surplus_line text takes given is_named
 line_fault_line (line.NoNumber text which) = no_number_line text which
+line_fault_line (line.OnlyNumbers which) = only_numbers_line which
 
 -- names, the first after a mark and each other one after a comma
 abbrev pub names_after : List ℕ → List (List ℕ) → List ℕ

@@ -277,15 +277,9 @@ RanFound known job files before after status =
 
 -- ---- folders with nothing to read
 
--- `lint` reports them, also as JSON
-abbrev pub is_lint : EntryAction → Bool
-is_lint (of_entry.Lint options color) = true
-is_lint (of_entry.Json (documents.Findings options)) = true
-is_lint _ = false
-
 abbrev pub line_on_none : EntryAction → List ℕ → Lookup → List ℕ
 line_on_none e word found =
-    if is_lint e && (found.is_folder && length found.files == 0)
+    if takes_folders e && (found.is_folder && length found.files == 0)
     then file_line word (codes "no entry was read\n") else []
 
 abbrev pub lines_on_none : EntryAction → List (List ℕ) → List Lookup → List ℕ

@@ -1,5 +1,5 @@
 -- What a fault says to a person, and what to do about it.
-use Rattle.std.specs.Prelude.{◌∷◌, ℕ, List, [], codes, if◌then◌else◌, nat_eq}
+use Rattle.std.specs.Prelude.{◌∷◌, ◌==◌, ℕ, List, [], codes, if◌then◌else◌, nat_eq}
 use Rattle.std.specs.List.{starts_with}
 use Rattle.ti_cap.specs.declared.language.CapFault.{CapFault}
 use Rattle.ti_cap.specs.declared.language.CapFault.TheVariants as cap
@@ -47,14 +47,18 @@ front_sentence bytes =
 abbrev pub most_front : ℕ
 most_front = 4
 
--- of the bytes of an entry
-abbrev pub entry_sentence : List ℕ → Fault → List ℕ
-entry_sentence bytes entry.BadMagic = front_sentence bytes
-entry_sentence bytes entry.Truncated = codes "the file ends before the entry does"
-entry_sentence bytes entry.Trailing = codes "bytes follow the end of the entry"
-entry_sentence bytes entry.HeaderTooBig = codes "an entry has at most 32768 bytes"
-entry_sentence bytes entry.ExtendedTooBig = codes "an entry has at most 32768 bytes"
-entry_sentence bytes fault = codes "the file is damaged; compile the source again with tic -x"
+-- of bytes that end too soon; none are there if that is at the first
+abbrev pub cut_sentence : ℕ → List ℕ
+cut_sentence place = if place == 0 then codes "the file is empty" else codes "the file ends before the entry does"
+
+-- of the bytes of an entry, by the fault and its place
+abbrev pub entry_sentence : List ℕ → Fault → ℕ → List ℕ
+entry_sentence bytes entry.BadMagic place = front_sentence bytes
+entry_sentence bytes entry.Truncated place = cut_sentence place
+entry_sentence bytes entry.Trailing place = codes "bytes follow the end of the entry"
+entry_sentence bytes entry.HeaderTooBig place = codes "an entry has at most 32768 bytes"
+entry_sentence bytes entry.ExtendedTooBig place = codes "an entry has at most 32768 bytes"
+entry_sentence bytes fault place = codes "the file is damaged; compile the source again with tic -x"
 
 -- what is said of a number that has no room in 16 bits
 abbrev pub wide_words : List ℕ

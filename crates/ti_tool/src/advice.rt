@@ -22,7 +22,7 @@ use crate::sentence::{cap_sentence, encode_sentence, entry_sentence, notation_se
 use crate::wide::{first_wide, said_of};
 use arrayvec::ArrayVec;
 use ti_cap::CapRefused;
-use ti_entry::{EncodeFault, Entry, Fault, read};
+use ti_entry::{EncodeFault, Entry, Refused, read};
 use ti_escape::{column, escape_into};
 use ti_line::{Action, EntryAction};
 use ti_names::{NameTable, find_short_or_long};
@@ -245,7 +245,7 @@ fn plain_advice(front: &[u8], fault: &ToolFault) -> Advice
     ensures { result.items ≡ any_advice front.now fault.now }
 {
     match fault {
-        ToolFault::Entry(refused) => indented(entry_sentence(front, refused.fault)),
+        ToolFault::Entry(refused) => indented(entry_sentence(front, *refused)),
         ToolFault::Encode(unfit) => indented(encode_sentence(*unfit)),
         ToolFault::Source(refused) => indented(notation_sentence(refused.fault)),
         ToolFault::TooMuch(_) => indented("lower --rate or --lines"),
@@ -260,11 +260,11 @@ fn plain_advice(front: &[u8], fault: &ToolFault) -> Advice
 }
 
 /// Of a refused file.
-pub fn refusal_advice(has_advice: bool, contents: &[u8], fault: Fault) -> Advice
-    ensures { result.items ≡ the_refusal_advice has_advice contents.now fault }
+pub fn refusal_advice(has_advice: bool, contents: &[u8], refused: Refused) -> Advice
+    ensures { result.items ≡ the_refusal_advice has_advice contents.now refused }
 {
     if has_advice {
-        indented(entry_sentence(contents, fault))
+        indented(entry_sentence(contents, refused))
     } else {
         ArrayVec::new()
     }

@@ -40,7 +40,7 @@ fn refusal_outcome<A: Allocator + Copy>(
         o.bytes.items o.line.items o.status) }
 {
     let line = fault_line(&ToolFault::Entry(refused));
-    let advice = refusal_advice(has_advice, contents, refused.fault);
+    let advice = refusal_advice(has_advice, contents, refused);
     fault_outcome(alloc, name, advised(&line, &advice).as_slice(), 3)
 }
 

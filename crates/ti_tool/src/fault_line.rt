@@ -4,7 +4,7 @@
 
 ghost use Rattle.std.specs.Prelude.{◌≡◌, ◌≤◌, ◌+◌, ◌++◌, codes, decimal, flat_map, length, map};
 ghost use Rattle.ti_tool.specs.Explained.{unknown_line as the_unknown_line};
-ghost use Rattle.ti_tool.specs.FaultLines.{action_line, diff_usage as the_diff_usage, entry_hint as the_entry_hint, fault_line, line_fault_line, place_line, words_line, near_part, no_name_line, no_number_line as the_no_number_line, shown_name as the_shown_name, surplus_line as the_surplus_line, text_named as the_text_named};
+ghost use Rattle.ti_tool.specs.FaultLines.{action_line, diff_usage as the_diff_usage, entry_hint as the_entry_hint, fault_line, line_fault_line, place_line, words_line, near_part, no_name_line, no_number_line as the_no_number_line, only_numbers_line as the_only_numbers_line, shown_name as the_shown_name, surplus_line as the_surplus_line, text_named as the_text_named};
 ghost use Rattle.ti_line.specs.declared.request.Action.TheVariants.{Entry};
 ghost use Rattle.ti_tool.specs.Near.{most_told};
 
@@ -243,6 +243,20 @@ fn no_number_line(text: usize, which: usize) -> FaultLine
     ])
 }
 
+/// The line on a word that is no number, of a capability that takes no text.
+fn only_numbers_line(which: usize) -> FaultLine
+    ensures { result.items ≡ the_only_numbers_line which }
+{
+    let mut digits = Buffer::new();
+    line_of(&[
+        b"parameter ",
+        digits.format(which).as_bytes(),
+        b": no 32-bit number",
+        entry_hint(true),
+        b"\n",
+    ])
+}
+
 /// The usage of `diff`, as its help has it.
 fn diff_usage() -> &'static [u8]
     ensures { result.now ≡ the_diff_usage }
@@ -275,5 +289,6 @@ pub fn line_fault_line(fault: LineFault) -> FaultLine
             is_named,
         } => surplus_line(text, takes, given, is_named),
         LineFault::NoNumber { text, which } => no_number_line(text, which),
+        LineFault::OnlyNumbers { which } => only_numbers_line(which),
     }
 }

@@ -2,14 +2,14 @@
 
 ghost use Rattle.std.specs.Prelude.{◌≡◌, ◌<◌, List, None, IfOk, flat_map, is_some, map, string_bytes};
 ghost use Rattle.ti_line.specs.Requests.{texts_of};
-ghost use Rattle.ti_tool.specs.FileRuns.{AreLookups, IsLookup, are_several as the_are_several, is_lint as the_is_lint, line_on_none as the_line_on_none, lines_on_none as the_lines_on_none, takes_folders as the_takes_folders};
+ghost use Rattle.ti_tool.specs.FileRuns.{AreLookups, IsLookup, are_several as the_are_several, line_on_none as the_line_on_none, lines_on_none as the_lines_on_none, takes_folders as the_takes_folders};
 ghost use Rattle.ti_tool.specs.Streams.{Lookup, file_name, lookup};
 
 use crate::file_answer::file_line;
 use crate::outcome::is_minus;
 use crate::store::{Files, FoundFile, Store, one_file};
 use std::alloc::{AllocError, Allocator};
-use ti_line::{Document, EntryAction};
+use ti_line::EntryAction;
 
 /// Whether a directory names the files in it.
 fn takes_folders(of_entry: &EntryAction<'_>) -> bool
@@ -45,17 +45,7 @@ fn look_up<S: Store, A: Allocator + Copy>(
     }
 }
 
-/// Whether a request looks for mistakes, also as JSON.
-fn is_lint(of_entry: &EntryAction<'_>) -> bool
-    ensures { result ≡ the_is_lint of_entry.now }
-{
-    matches!(
-        of_entry,
-        EntryAction::Lint(_, _) | EntryAction::Json(Document::Findings(_))
-    )
-}
-
-/// The line on a folder in which `lint` found no entry, else nothing.
+/// The line on a folder in which no entry was found, else nothing.
 fn line_on_none<A: Allocator + Copy>(
     alloc: A,
     of_entry: &EntryAction<'_>,
@@ -66,7 +56,7 @@ fn line_on_none<A: Allocator + Copy>(
         (lookup files.now.are_in_folder
         (map (λ f. file_name (string_bytes f.name) (is_some f.fault)) files.now.found.items))) }
 {
-    if is_lint(of_entry) && files.are_in_folder && files.found.is_empty() {
+    if takes_folders(of_entry) && files.are_in_folder && files.found.is_empty() {
         file_line(alloc, word, b"no entry was read\n")
     } else {
         Ok(Vec::new(alloc))

@@ -255,14 +255,14 @@ fn run_no_request<A: Allocator + Copy, W: Write, E: Write>(
 /// |---|---|---|
 /// | 0 | done, or help or explanations were requested | none, but a summary of `lint` that is wanted, or a line on a notation that has a name and `=` before it |
 /// | 1 | `check` found a fault, `lint` something wrong, `diff` a difference, or the flag of `get` is not set | the same |
-/// | 2 | the words are no command line or no parameters, or such as do not fit the capability, or request both widths, or both forms of an output, or an entry at a terminal, or to compare no file, more than two, or standard input with itself, or to explain a word that no finding has, or in JSON | what is wrong and the usage; `parameters: more than nine`; `parameters: NAME takes N, not K`; `parameter K: bad word`; `parameter K of NAME: no 32-bit number`; `convert: both widths`; `--hex and --escape exclude each other`; `--source and --of exclude each other`; `trace: --entry without --of`; `convert: not to a terminal without --force`; `diff: one file or two` and the usage; `diff: standard input cannot be compared with itself`; `lint: WORD: no such finding`; `--json and --explain exclude each other` |
+/// | 2 | the words are no command line or no parameters, or such as do not fit the capability, or request both widths, or both forms of an output, or an entry at a terminal, or to compare no file, more than two, or standard input with itself, or to explain a word that no finding has, or in JSON | what is wrong and the usage; `parameters: more than nine`; `parameters: NAME takes N, not K`; `parameter K: bad word`; `parameter K of NAME: no 32-bit number`; `parameter K: no 32-bit number; an entry is named by --entry FILE`; `convert: both widths`; `--hex and --escape exclude each other`; `--source and --of exclude each other`; `trace: --entry without --of`; `convert: not to a terminal without --force`; `diff: one file or two` and the usage; `diff: standard input cannot be compared with itself`; `lint: WORD: no such finding`; `--json and --explain exclude each other` |
 /// | 3 | the entry is refused, or can't be encoded | `entry: WORD at PLACE`; `entry: WORD` |
 /// | 4 | the capability or its notation is refused, or it is absent, a text is too long for it, or its padding too much | `capability: WORD at PLACE`; `source: WORD at PLACE`; `capability: absent`; `get: NAME: absent`; `trace: NAME: no such text`; `get: NAME: no such capability`, and the same of `trace`; `capability: TextTooLong K`; `capability: TooMuch N` |
 /// | 5 | reading or writing failed | `input: failed`; `output: failed` |
 /// | 6 | out of memory | `memory` |
 ///
 /// After a word that names a file a fault line starts with `FILE: `, but for a failed write, and status 5 has the system's
-/// reason, such as `FILE: No such file or directory`. For a folder without a file `lint` ends with status 5, and
+/// reason, such as `FILE: No such file or directory`. For a folder without a file the status is 5, and
 /// the line is `FILE: no entry was read`.
 ///
 /// A fault line that cannot be written changes no status. No byte of an entry or of a word goes to `errors` but printable

@@ -1,10 +1,10 @@
 //! A sentence on each fault for a person, and what to do about it.
 
 ghost use Rattle.std.specs.Prelude.{◌≡◌, ◌≤◌, length};
-ghost use Rattle.ti_tool.specs.Sentences.{cap_sentence as the_cap_sentence, encode_sentence as the_encode_sentence, entry_sentence as the_entry_sentence, front_sentence as the_front_sentence, most_sentence, notation_sentence as the_notation_sentence, wide_words as the_wide_words};
+ghost use Rattle.ti_tool.specs.Sentences.{cap_sentence as the_cap_sentence, cut_sentence as the_cut_sentence, encode_sentence as the_encode_sentence, entry_sentence as the_entry_sentence, front_sentence as the_front_sentence, most_sentence, notation_sentence as the_notation_sentence, wide_words as the_wide_words};
 
 use ti_cap::CapFault;
-use ti_entry::{EncodeFault, Fault};
+use ti_entry::{EncodeFault, Fault, Refused};
 use ti_escape::NotationFault;
 
 /// Of a capability, in the words of terminfo(5).
@@ -69,14 +69,26 @@ fn front_sentence(bytes: &[u8]) -> &'static str
     }
 }
 
-/// Of the bytes of an entry.
-pub fn entry_sentence(bytes: &[u8], fault: Fault) -> &'static str
-    ensures value { result.now ≡ the_entry_sentence bytes.now fault }
+/// Of bytes that end too soon, at a place.
+fn cut_sentence(place: usize) -> &'static str
+    ensures value { result.now ≡ the_cut_sentence place }
     ensures few { length result.now ≤ most_sentence }
 {
-    match fault {
+    if place == 0 {
+        "the file is empty"
+    } else {
+        "the file ends before the entry does"
+    }
+}
+
+/// Of the bytes of an entry.
+pub fn entry_sentence(bytes: &[u8], refused: Refused) -> &'static str
+    ensures value { result.now ≡ the_entry_sentence bytes.now refused.fault refused.place }
+    ensures few { length result.now ≤ most_sentence }
+{
+    match refused.fault {
         Fault::BadMagic => front_sentence(bytes),
-        Fault::Truncated => "the file ends before the entry does",
+        Fault::Truncated => cut_sentence(refused.place),
         Fault::Trailing => "bytes follow the end of the entry",
         Fault::HeaderTooBig | Fault::ExtendedTooBig => "an entry has at most 32768 bytes",
         Fault::BadHeader

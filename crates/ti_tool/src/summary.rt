@@ -42,7 +42,7 @@ impl Tally {
         Tally {
             findings: findings as u128,
             entries: 1,
-            strings: coverage.strings as u128,
+            strings: coverage.strings,
             tried: coverage.tried as u128,
             values: coverage.values,
         }

@@ -59,7 +59,7 @@ ti check --escape | @EXTENDED => refused, then given
 ti check --json | @EXTENDED => refused, then given
 ti expand --rate 960 #0 s:a$<9>_and_some_more_bytes_after_it,_as_many_as_sixty_or_so | @TEXT => refused, then given
 ti convert | @EXTENDED => refused, then given
-ti get --rate 960 text#0 a$<9>_and_some_more_bytes_after_it,_as_many_as_sixty_or_so | @TEXT => refused, then given
+ti get --rate 960 text#0 s:a$<9>_and_some_more_bytes_after_it,_as_many_as_sixty_or_so | @TEXT => refused, then given
 ";
 
 /// A run over an input, which may be refused memory.

@@ -91,7 +91,7 @@ const GIVEN: &str = r"
 # without a parameter a text is not expanded
 ti get cbt | @TEXT => 0 out %p1%s
 ti get cbt 7 | @TEXT => 0 out 7
-ti get cbt abc | @TEXT => 0 out abc
+ti get cbt s:abc | @TEXT => 0 out abc
 ti get cbt s:n:1 | @TEXT => 0 out n:1
 ti get cbt -- -5 | @TEXT => 0 out -5
 ti get cmdch 7 | @UNCOMMON => 0 out \E7\^,\s
@@ -101,9 +101,9 @@ ti get command_character 7 | @UNCOMMON => 0 out \E7\^,\s
 # what is not expanded may be no capability
 ti get bel | @QUESTION => 0 out \E[?%[;0123456789]c
 ti get bel 1 | @QUESTION => 4 err capability: UnknownEscape at 3\n
-ti get cbt --hex --rate 960 $<5> | @TEXT => 0 out 0000000000\n
-ti get cbt $<5> | @TEXT => 0
-ti get cbt --rate 1000000 --lines 65535 $<99999*> | @TEXT => 4 err capability: TooMuch 6553434465000\n
+ti get cbt --hex --rate 960 s:$<5> | @TEXT => 0 out 0000000000\n
+ti get cbt s:$<5> | @TEXT => 0
+ti get cbt --rate 1000000 --lines 65535 s:$<99999*> | @TEXT => 4 err capability: TooMuch 6553434465000\n
 ti get bel | ^Z^A^B\000^A => 3 err entry: Truncated at 5\n
 ti get --hex --escape bel | @SMALL => 2 err --hex and --escape exclude each other\n
 ti get bel n:x | @SMALL => 2 err parameter 1: bad word\n
@@ -144,11 +144,14 @@ ti get text#115 1 x | @SMALL => 4 err get: text#115: absent\n
 ti get #115 x x | ^Z => 2 err parameter 1 of pfkey: no 32-bit number\n
 ti get #115 1 x | @SMALL => 4 err get: #115: absent\n
 ti trace --of=#10 1 2 3 | ^Z => 2 err parameters: cup takes 2, not 3\n
-# terminfo(5) gives no count to these, to a name of the entry's own, and to a label of another kind or of no text
-ti get bel 1 red 99999999999 | @SMALL => 0 out ^G
-ti get am red | @SMALL => 1
-ti get cols red | @SMALL => 0 out 80\n
-ti get E3 red 99999999999 | @EXTENDED => 0 out \E[3J
+# without a count these take numbers alone; of a label of another kind or of no text nothing is known
+ti get bel 1 red 99999999999 | @SMALL => 2 err parameter 2: no 32-bit number; an entry is named by --entry FILE\n
+ti get bel 1 s:red 9 | @SMALL => 0 out ^G
+ti get am red | @SMALL => 2 err parameter 1: no 32-bit number; an entry is named by --entry FILE\n
+ti get am 5 | @SMALL => 1
+ti get cols red | @SMALL => 2 err parameter 1: no 32-bit number; an entry is named by --entry FILE\n
+ti get E3 red 99999999999 | @EXTENDED => 2 err parameter 1: no 32-bit number; an entry is named by --entry FILE\n
+ti get E3 9 | @EXTENDED => 0 out \E[3J
 ti get number#0 red | @SMALL => 0 out 80\n
 ti get #414 red | @SMALL => 4 err get: #414: absent\n
 ";

@@ -125,9 +125,9 @@ ti expand cup --entry small | terminal => 4 err small: capability: absent\n
 ti check folder | file => 5 out folder/fault: text bel fault UnknownEscape at 3\nfolder/whole: text bel ok depth 0 bound 1\nfolder/whole: text+ E3 ok depth 0 bound 4\n err folder: invalid filename\n
 ti check --json folder | file => 5 out {"file":"folder/fault","verdicts":[{"fault":"UnknownEscape","kind":"text","name":"bel","place":3}]}\n{"file":"folder/whole","verdicts":[{"bound":1,"depth":0,"kind":"text","name":"bel"},{"bound":4,"depth":0,"kind":"text","name":"E3","own":true}]}\n err folder: invalid filename\n
 ti check - | file => 1 out text bel fault UnknownEscape at 3\n
-# only `lint` reports a folder without a file
-ti check empty | file => 0
-ti show --json empty | file => 0
+# a folder without a file is reported
+ti check empty | file => 5 err empty: no entry was read\n
+ti show --json empty | file => 5 err empty: no entry was read\n
 ti lint empty | file => 5 err empty: no entry was read\n
 ti lint --json empty cut empty | file => 5 err cut: entry: Truncated at 5\nempty: no entry was read\nempty: no entry was read\n
 ti check none\E cut small | file => 5 out small: text bel ok depth 0 bound 1\n err none\\E: entity not found\ncut: entry: Truncated at 5\n

@@ -4,6 +4,7 @@ use Rattle.ti_report.specs.Remarks as spec
 use Rattle.ti_report.specs.declared.remark.About.{About}
 use Rattle.ti_report.specs.declared.remark.About.TheVariants as abouts
 use Rattle.ti_report.specs.declared.remark.Evidence.{Evidence}
+use Rattle.ti_report.specs.declared.remark.NamedText.{NamedText}
 use Rattle.ti_report.specs.declared.remark.Evidence.TheVariants as evidences
 use Rattle.ti_report.specs.declared.finding.Row.{Row}
 use Rattle.ti_report.specs.Findings as findings
@@ -34,7 +35,6 @@ heads_held heads = map head_held heads
 
 abbrev pub evidence_held : {A : Type 0} → Evidence A → spec.Evidence
 evidence_held evidences.None = spec.NoEvidence
-evidence_held (evidences.Fault fault) = spec.Fault fault
 evidence_held (evidences.Last parameter) = spec.Last parameter
 evidence_held (evidences.Value value) = spec.Value value
 evidence_held (evidences.Parameters set) = spec.Parameters set
@@ -66,3 +66,9 @@ text_held t =
 
 abbrev pub texts_held : List KnownText → List subjects.KnownText
 texts_held texts = map text_held texts
+
+abbrev pub unknown_held : NamedText → subjects.UnknownText
+unknown_held t = record { name = t.name.now; text = t.text.now }
+
+abbrev pub unknowns_held : List NamedText → List subjects.UnknownText
+unknowns_held texts = map unknown_held texts

@@ -72,6 +72,20 @@ mistakes | is2=\E[!p\E[?5i => print: CSI ?5i, a copy to the printer
 mistakes | rs1=\Ec\E]104^G | home=\E[H => -
 mistakes | +Ms=\E]52;%p1%s;%p2%s^G => -
 mistakes | +XM=\E[?1006;1000%?%p1%{1}%=%th%el%; => -
+# tmux(1) sends Sync, whatever it is. Nothing is known of xyzzy, which may be sent as it stands or expanded. Names of keys start with k.
+mistakes | +Sync=\E[6n => answer: CSI 6n, a request for the cursor's place or a status
+mistakes | +xyzzy=\E[6n => answer: CSI 6n, a request for the cursor's place or a status
+mistakes | +xyzzy=\E]52;c;%p1%s^G => clipboard: OSC 52;c;, a text for the clipboard
+mistakes | +xyzzy=%{27}%c[6n%p1%d => answer: CSI 6n, a request for the cursor's place or a status
+mistakes | +xyzzy=\E[6n%; => answer: CSI 6n, a request for the cursor's place or a status
+mistakes | +xyzzy=\E[%p1%dm | home=\E[H => -
+mistakes | +kxyz=\E[6n | +rv=\E[6n | +KJ=\E[6n => -
+# These stand where they may.
+mistakes | +Sync=\EP=%p1%ds\E\\ | +RV=\E[>c | +XR=\E[>q | +fe=\E[?1004h | +Enfcs=\E[?1004h | +Enbp=\E[?2004h => -
+mistakes | +WS=\E[8;%p1%d;%p2%dt | +Hls=\E]8;;%p2%s\E\\ | +Swd=\E]7; | fsl=^G => -
+# A fault hides no harm.
+mistakes | setaf=\E[6n%;%p1%d => answer: CSI 6n, a request for the cursor's place or a status
+mistakes | csr=\E[%i%i%p1%d;%p2%dr\E[6n => answer: CSI 6n, a request for the cursor's place or a status
 mistakes | kf1=\E[6n | u8=\E[?1;2c | acsc=\E[6n\E[ => -
 mistakes | pfkey=\EP1;1|%p1%d/%p2%s\E\\ => -
 mistakes | clear=\E[H\E]777;notify;a^G => other-control: OSC 777;notify;a, a control of some terminals
@@ -99,6 +113,7 @@ impl Finds for LinesOf {
 /// Entries, with the lines on them.
 const LINES: &str = r"
 mistakes in file | cup=\E[%i%p1%d;%p2%dH\E[6n => file: cup\n  \\E[%i%p1%d;%p2%dH\\E[6n\n                   \^\n  answer: CSI 6n, a request for the cursor's place or a status: the terminal types an answer at the shell\n  do: leave it out, or send it in a string that is for it\n
+mistakes in file | tsl=\E]0;%p1%d | home=\E[H => file: tsl\n  \\E]0;%p1%d\n  \^\n  string-open: OSC 0;0, a string without its end: the terminal takes what follows for part of a string\n  do: add fsl, or end it with \^G or \\E\\\\\n
 ";
 
 #[test]

@@ -1,7 +1,7 @@
 //! The classes of the texts in terminfo(5), and which capabilities store variables and leave out parameters.
 
 use crate::tests::check_rows;
-use ti_cap::{Capability, Token};
+use ti_cap::{CapFault, Capability, Token};
 use ti_fixtures::{Finds, Given, Unfound, place_of, show, show_debug};
 use ti_lint::{
     Variables, extended_class_of, is_double_percent, is_false_mark, is_half_paired, is_mark,
@@ -227,8 +227,19 @@ XM => Some(Parameterized(1))
 E3 => Some(Plain)
 kDC5 => Some(Key)
 xm => Some(Input)
-# tmux(1) gives Ms two parameters
+# tmux(1) gives Ms two parameters, Sync one and Enbp none; setrgbf has one for each of red, green and blue
 Ms => Some(Parameterized(2))
+Sync => Some(Parameterized(1))
+Enbp => Some(Plain)
+setrgbf => Some(Parameterized(3))
+# screen(1): WS has two parameters, and KJ is the name of an encoding
+WS => Some(Parameterized(2))
+KJ => Some(Label)
+# Vim has t_fe without parameters, and t_SH with one
+fe => Some(Plain)
+SH => Some(Parameterized(1))
+# user_caps(5): rv is a pattern of what the terminal answers
+rv => Some(Input)
 Xm => None
 - => None
 ";
@@ -249,7 +260,7 @@ fn some_texts_of_own_names_are_known(rt: HostRuntime) {
 
 /// The findings of texts and entries, and their words.
 const WORDS: &[(Finding, &'static str)] = &[
-    (Finding::Malformed, "malformed"),
+    (Finding::Malformed(CapFault::StrayEnd), "malformed"),
     (Finding::UnusedParameter, "parameter-unused"),
     (Finding::UninterpretedEscape, "uninterpreted-escape"),
     (Finding::UninterpretedPercent, "uninterpreted-percent"),

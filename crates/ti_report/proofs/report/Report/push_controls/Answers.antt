@@ -1,26 +1,12 @@
-use Rattle.std.proofs.Common.{◌≡◌, ◌∙◌, List, ap₂, subst}
-use Rattle.ti_report.specs.Controls.{AreControlsOf, Terminal, terminal_of}
-use Rattle.ti_report.specs.Lines.{Adds, AreAll}
-use Rattle.ti_report.specs.Subjects.{KnownText, known_texts}
-use Rattle.ti_report.specs.inner.Held.{terminal_held, text_held}
-use Rattle.ti_report.proofs.ReportsLemmas.{all_end, all_step, no_text}
+use Rattle.std.proofs.Common.{◌≡◌, ◌∙◌, ap₂, subst}
+use Rattle.ti_report.specs.Controls.{AreControlsBy, Terminal, terminal_of}
+use Rattle.ti_report.specs.inner.Growing.{Gains}
+use Rattle.ti_report.specs.inner.Held.{terminal_held}
 use Rattle.ti_report.proofs.report.Report.push_controls.Goals as goal
-
-pub texts-preserved : goal.texts-preserved
-texts-preserved g c =
-    let (kept, told) = c.in_ok-push_controls_of.ensures in
-    record {
-      kept = kept ∙ c.texts.invariant.kept;
-      goes = all_step (AreControlsOf (terminal_held c.in_ok-terminal.terminal)) text_held c.texts-text-items.result.now c.texts.text-index no_text c.args.self.now.remarks c.texts.self.remarks c.push_controls_of.new.self.remarks
-          c.texts-test.true c.texts.invariant.goes told;
-    }
 
 pub returns : goal.returns
 returns g c =
     let old = c.args.self.now in
-    let last = c.texts.self in
     let t : Terminal = terminal_held c.in_ok-terminal.terminal in
-    let Told : Terminal → List KnownText → Type 0 = λ t texts. Adds (AreAll (AreControlsOf t) texts) old.remarks last.remarks in
-    let all = all_end (AreControlsOf t) text_held c.texts-text-items.result.now c.texts.text-index old.remarks last.remarks c.texts-test.false c.texts.invariant.goes in
     let same : t ≡ terminal_of old.on.options.untrusted old.on.entry = c.in_ok-terminal.ensures ∙ ap₂ terminal_of c.untrusted-untrusted.ensures c.entry-entry.ensures in
-    (c.texts.invariant.kept, subst (λ t. Told t (known_texts old.on.entry)) same (subst (Told t) c.texts-text-items.ensures all))
+    subst (λ x. Gains (AreControlsBy x old.on.entry) old c.push_controls_by.new.self) same c.in_ok-push_controls_by.ensures

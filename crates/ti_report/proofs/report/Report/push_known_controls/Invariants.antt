@@ -3,7 +3,7 @@ use Rattle.std.proofs.Common.{◌≡◌, drop}
 use Rattle.ti_report.specs.Controls.{AreControlsOf}
 use Rattle.ti_report.specs.inner.Held.{terminal_held, texts_held}
 use Rattle.ti_report.proofs.ReportsLemmas.{GoesOnWith}
-use Rattle.ti_report.proofs.report.Report.push_controls.Given as goal
+use Rattle.ti_report.proofs.report.Report.push_known_controls.Given as goal
 
 abbrev pub invariant-texts : goal.invariant-texts
 invariant-texts g l = record {
