@@ -33,6 +33,13 @@ def seed_of_tree() -> str:
     return sha256(record.read_bytes() if record.is_file() else b"").hexdigest()[:12]
 
 
+def is_left(what: str, tally: Tally) -> bool:
+    """Whether something is left to ./gate, of which a line says so."""
+    if seed():
+        tally.note(f"left to ./gate: {what}")
+    return bool(seed())
+
+
 def draw_of(total: int, one_of: int, what: str, tally: Tally, least: int = LEAST) -> int:
     """How many of so many cases are tried. If they are drawn, a line says so."""
     count = min(total, max(least, total // one_of)) if seed() else total
