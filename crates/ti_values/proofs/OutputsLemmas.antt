@@ -1,5 +1,5 @@
 -- What is found for one more sample.
-use Rattle.std.proofs.Common.{◌≡◌, ◌<◌, ℕ, ◌+◌, List, [], ◌∷◌, ◌++◌, get_or, length, refl, subst, sym, take, Vec}
+use Rattle.std.proofs.Common.{◌≡◌, ◌∙◌, ◌<◌, ℕ, ◌+◌, List, [], ◌∷◌, ◌++◌, ap, get_or, length, map, refl, subst, sym, take, Vec}
 use Rattle.std.proofs.lemmas.List.{map-append, take_more}
 use Rattle.ti_control.specs.Misplaced.{Place}
 use Rattle.ti_values.specs.Controls.{Found}
@@ -24,3 +24,12 @@ output_more {A} {B} place text samples k d old new output within are more next =
     let S : List (Vec (FoundFunction A) B) → Type 0 = λ l. R (outputs_held l) in
     subst S (sym next) (subst R (sym (map-append (λ (o : Vec (FoundFunction A) B). founds_held o.items) old (output ∷ [])))
     (subst P (sym (take_more samples k d within)) (and_one place text (take k samples) (outputs_held old) (get_or samples k d) (founds_held output.items) are more)))
+
+pub none_more : {A B : Type 0} (samples : List Sample) (k : ℕ) (d : Sample) (old new : List (Vec (FoundFunction A) B)) (output : Vec (FoundFunction A) B)
+    → k < length samples → outputs_held old ≡ map (λ sample. []) (take k samples) → output.items ≡ [] → new ≡ old ++ output ∷ []
+    → outputs_held new ≡ map (λ sample. []) (take (k + 1) samples)
+none_more {A} {B} samples k d old new output within are none next =
+    let empty : Sample → List Found = λ sample. [] in
+    ap outputs_held next ∙ map-append (λ (o : Vec (FoundFunction A) B). founds_held o.items) old (output ∷ [])
+    ∙ ap (λ l. l ++ founds_held output.items ∷ []) are ∙ ap (λ l. map empty (take k samples) ++ founds_held l ∷ []) none
+    ∙ sym (map-append empty (take k samples) (get_or samples k d ∷ [])) ∙ ap (map empty) (sym (take_more samples k d within))

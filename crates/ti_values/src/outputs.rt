@@ -1,6 +1,6 @@
 //! The control functions that are found in what a text sends.
 
-ghost use Rattle.std.specs.Prelude.{◌≡◌, ◌∷◌, ◌==◌, ◌||◌, [], not, IfOk};
+ghost use Rattle.std.specs.Prelude.{◌≡◌, ◌∷◌, ◌==◌, ◌||◌, [], map, not, IfOk};
 ghost use Rattle.ti_control.specs.Parts.{place_at};
 ghost use Rattle.ti_values.specs.Arms.{is_active};
 ghost use Rattle.ti_values.specs.Idle.{IsIdle, is_idle_but, is_idle_text};
@@ -79,7 +79,21 @@ fn output_for<A: Allocator + Copy>(
     Ok(output)
 }
 
-/// The same for each of some samples.
+/// Nothing found, for each of some samples.
+fn none_for<A: Allocator + Copy>(
+    alloc: A,
+    samples: &[Sample],
+) -> Result<Vec<Vec<FoundFunction<A>, A>, A>, AllocError>
+    ensures { IfOk result (λ list. outputs_held list.items ≡ map (λ sample. []) samples.now) }
+{
+    let mut list = Vec::new(alloc);
+    'samples: for _sample in samples {
+        list.push(Vec::new(alloc))?;
+    }
+    Ok(list)
+}
+
+/// The same for each of some samples. A capability that is idle is not run.
 ///
 /// # Errors
 ///
@@ -93,6 +107,10 @@ pub fn outputs_for<A: Allocator + Copy>(
     ensures all { IfOk result
         (λ list. AreOutputs (place_at place.now) capability.now samples.now (outputs_held list.items)) }
 {
+    if is_idle(capability) {
+        let none = none_for(alloc, samples)?;
+        return Ok(none);
+    }
     let mut list = Vec::new(alloc);
     'samples: for sample in samples {
         list.push(output_for(alloc, place, capability, *sample)?)?;
@@ -112,6 +130,9 @@ pub fn arms_found<A: Allocator + Copy>(
 ) -> Result<Vec<FoundFunction<A>, A>, AllocError>
     ensures all { IfOk result (λ found. AreArmsFound (place_at place.now) capability.now (founds_held found.items)) }
 {
+    if is_idle(capability) {
+        return Ok(Vec::new(alloc));
+    }
     let bytes = arms_of(alloc, capability)?;
     let found = found_in(alloc, place, bytes.as_slice())?;
     Ok(found)
