@@ -38,7 +38,8 @@ def paragraphs() -> dict[str, tuple[str, str]]:
     """For each word its summary and its paragraph, in the order of the manual. What is reported with --all alone says so."""
     manual = (ROOT / "docs/ti-findings.7").read_text().split(".SH FINDINGS\n")[1].split(".SH ")[0]
     found: dict[str, tuple[str, str]] = {}
-    for section in manual.split(".SS ")[1:]:
+    # What is reported always comes first.
+    for section in sorted(manual.split(".SS ")[1:], key=lambda section: section.startswith(ONLY_ALL)):
         for heading, text in re.findall(r"^\.TP\n\.B (\S+)\n((?:[^.].*\n)+)", section, re.M):
             word, first, text = plain(heading), summary(plain(text.split(".\n")[0])), plain(text)
             if not section.startswith(ONLY_ALL):

@@ -38,7 +38,7 @@ use Rattle.ti_report.specs.declared.finding.Finding.{Finding}
 use Rattle.ti_report.specs.declared.finding.Finding.TheVariants as findings
 use Rattle.ti_report.specs.Actions.{action_remarks}
 use Rattle.ti_report.specs.Blocks.{report_lines}
-use Rattle.ti_report.specs.Controls.{AreCapabilityControls, AreControlRemarks, AreControlsIn, AreControlsOf, ArePlainFound, AreUnknownAt, AreUnknownControls, Terminal, control_remarks, place_in, plain_controls, range_in, terminal_of}
+use Rattle.ti_report.specs.Controls.{AreCapabilityControls, AreControlRemarks, AreControlsIn, AreControlsOf, ArePlainFound, AreUnknownAt, AreUnknownControls, Terminal, bytes_of_known, bytes_of_unknown, control_remarks, looked_at, place_in, plain_controls, range_in, terminal_of}
 use Rattle.ti_report.specs.Keys.{AreKeyRemarks, entry_keys}
 use Rattle.ti_report.specs.Lines.{AreAll, AreReports, InTurn}
 use Rattle.ti_report.specs.NameBytes.{AreAliases, IsRepeatedReport, parted, AreNameByteRemarks, IsAliasReport, IsOwnNameReport, IsUtf8Report, alias_remarks, long_names, on_names}
@@ -319,8 +319,10 @@ one_unknown t u = refused_or u.text (λ refused. plain_controls t u.name u.text)
 one_controls : (untrusted : Bool) (v : EntryValue) → IsOne (AreControlRemarks untrusted v)
 one_controls untrusted v =
     let t = terminal_of untrusted v in
-    in_turn (AreAll (AreControlsOf t) (known_texts v)) (AreAll (AreUnknownControls t) (unknown_texts v))
-    (all (AreControlsOf t) (λ k. one_in_class (is_sent k.name) t k.class k.name k.text) (known_texts v)) (all (AreUnknownControls t) (one_unknown t) (unknown_texts v))
+    let known = looked_at bytes_of_known (known_texts v) in
+    let unknown = looked_at bytes_of_unknown (unknown_texts v) in
+    in_turn (AreAll (AreControlsOf t) known) _ (all (AreControlsOf t) (λ k. one_in_class (is_sent k.name) t k.class k.name k.text) known)
+    (in_turn (AreAll (AreUnknownControls t) unknown) _ (all (AreUnknownControls t) (one_unknown t) unknown) (λ x y p q. p ∙ sym q))
 
 one_found_list : (untrusted : Bool) (bytes : List ℕ) (v : EntryValue) → IsOne (AreRemarks untrusted bytes v)
 one_found_list untrusted bytes v =

@@ -1,5 +1,5 @@
 -- Control functions that may not stand in the text that sends them.
-use Rattle.std.specs.Prelude.{◌≡◌, ◌⊎◌, ℕ, ◌||◌, Bool, true, false, List, [], ◌∷◌, ◌++◌, codes, map, Option, Some, None, if◌then◌else◌}
+use Rattle.std.specs.Prelude.{◌≡◌, ◌⊎◌, ◌-◌, ℕ, suc, ◌||◌, Bool, true, false, List, [], ◌∷◌, ◌++◌, codes, length, map, nat_lt, Option, Some, None, if◌then◌else◌, take}
 use Rattle.std.specs.List.{flat_map, list_any}
 use Rattle.std.specs.Str.{bytes_eq}
 use Rattle.ti_cap.specs.declared.language.CapRefused.{CapRefused}
@@ -23,11 +23,12 @@ use Rattle.ti_values.specs.declared.samples.Sample.{Sample}
 use Rattle.ti_words.specs.Texts.{TextOf, TextValue}
 use Rattle.ti_words.specs.Value.{EntryValue}
 use Rattle.ti_report.specs.declared.finding.Finding.{Finding}
-use Rattle.ti_report.specs.declared.finding.Finding.TheVariants.{Control, OpenLine}
+use Rattle.ti_report.specs.declared.finding.Finding.TheVariants.{Control, NotAllTried, OpenLine}
 use Rattle.ti_report.specs.Lines.{AreAll, InTurn}
 use Rattle.ti_report.specs.Remarks.{Function, OfText, Remark}
 use Rattle.ti_report.specs.Subjects.{KnownText, UnknownText, known_texts, unknown_texts}
 use Rattle.ti_report.specs.Values.{number_named, text_named}
+use Rattle.ti_report.specs.Whole.{found_if}
 
 -- ---- the terminal
 
@@ -155,8 +156,38 @@ AreUnknownControls t u = AreControlsIf t u.name u.text (AreUnknownAt t.untrusted
 
 -- ---- all texts
 
+-- texts can share bytes, so that those of an entry send far more than it has; those that share none have fewer together
+abbrev pub most_bytes : ℕ
+most_bytes = 32768
+
+-- how many texts at the start of a list have at most so many bytes together
+abbrev pub fitting : ℕ → List (List ℕ) → ℕ
+fitting room [] = 0
+fitting room (text ∷ texts) = if nat_lt room (length text) then 0 else suc (fitting (room - length text) texts)
+
+-- how many of a list are looked at, which ones, and whether others are left
+abbrev pub looked_count : {X : Type 0} → (X → List ℕ) → List X → ℕ
+looked_count text_of texts = fitting most_bytes (map text_of texts)
+
+abbrev pub looked_at : {X : Type 0} → (X → List ℕ) → List X → List X
+looked_at text_of texts = take (looked_count text_of texts) texts
+
+abbrev pub are_left : {X : Type 0} → (X → List ℕ) → List X → Bool
+are_left text_of texts = nat_lt (looked_count text_of texts) (length texts)
+
+abbrev pub bytes_of_known : KnownText → List ℕ
+bytes_of_known t = t.text
+
+abbrev pub bytes_of_unknown : UnknownText → List ℕ
+bytes_of_unknown t = t.text
+
+abbrev pub left_remarks : EntryValue → List Remark
+left_remarks v = found_if (are_left bytes_of_known (known_texts v) || are_left bytes_of_unknown (unknown_texts v)) NotAllTried
+
 abbrev pub AreControlsBy : Terminal → EntryValue → List Remark → Type 0
-AreControlsBy t v = InTurn (AreAll (AreControlsOf t) (known_texts v)) (AreAll (AreUnknownControls t) (unknown_texts v))
+AreControlsBy t v =
+    InTurn (AreAll (AreControlsOf t) (looked_at bytes_of_known (known_texts v)))
+    (InTurn (AreAll (AreUnknownControls t) (looked_at bytes_of_unknown (unknown_texts v))) (λ all. all ≡ left_remarks v))
 
 abbrev pub AreControlRemarks : Bool → EntryValue → List Remark → Type 0
 AreControlRemarks untrusted v = AreControlsBy (terminal_of untrusted v) v

@@ -9,6 +9,7 @@ use Rattle.ti_values.specs.Sent.{IsShort}
 use Rattle.ti_words.specs.Texts.{TextOf, TextValue}
 use Rattle.ti_words.specs.Value.{EntryValue}
 use Rattle.ti_report.specs.declared.coverage.Coverage.{Coverage}
+use Rattle.ti_report.specs.Controls.{bytes_of_known, bytes_of_unknown, looked_count}
 use Rattle.ti_report.specs.Subjects.{known_texts, unknown_texts}
 use Rattle.ti_report.specs.Values.{number_named, text_named}
 
@@ -30,7 +31,8 @@ AreCounts v ((name, range) ∷ rows) tried sum =
     (count : ℕ) × (more : ℕ) × (others : ℕ) × IsCount (text_named v name) range count × AreCounts v rows more others
     × (tried ≡ (if count == 0 then 0 else 1) + more) × (sum ≡ count + others)
 
--- the texts, those of them that are tried over values, and over how many
+-- the texts that are looked at for control functions, those that are left, those that are tried over values, and over how many
 pub record IsCoverage (v : EntryValue) (coverage : Coverage) : Type 0 where
-  pub strings : coverage.strings ≡ length (known_texts v) + length (unknown_texts v)
+  pub strings : coverage.strings ≡ looked_count bytes_of_known (known_texts v) + looked_count bytes_of_unknown (unknown_texts v)
+  pub all : coverage.strings + coverage.left ≡ length (known_texts v) + length (unknown_texts v)
   pub tried : AreCounts v (tried_texts (number_named v (codes "lines")) (number_named v (codes "cols")) (number_named v (codes "colors"))) coverage.tried coverage.values

@@ -9,11 +9,11 @@ ghost use Rattle.ti_values.specs.inner.Rows.{row_of};
 ghost use Rattle.ti_words.specs.Texts.{text_value};
 ghost use Rattle.ti_report.specs.Controls.{AreCapabilityControls, AreControlRemarks, AreControlsBy, AreControlsOf, ArePlainFound, AreTriedControls, AreUnknownAt, AreUnknownControls, AreUnknownFound, control_finding, control_remarks, has_introducer, is_ecma_entry, is_ecma_text, on_counted, place_in, plain_controls, plain_text, range_in, sent_text, terminal_of};
 ghost use Rattle.ti_report.specs.inner.Growing.{Gains, GainsThese};
-ghost use Rattle.ti_report.specs.inner.Held.{terminal_held, text_held, unknown_held};
+ghost use Rattle.ti_report.specs.inner.Held.{terminal_held, text_held, texts_held, unknown_held, unknowns_held};
 ghost use Rattle.ti_report.specs.Lines.{AreAll};
-ghost use Rattle.ti_report.specs.Subjects.{known_texts, unknown_texts as the_unknown_texts};
 
 use crate::finding::Finding;
+use crate::looked::{are_left, known_fitting, unknown_fitting};
 use crate::lookup::{number_named, text_named};
 use crate::remark::{About, Evidence, NamedText};
 use crate::report::Report;
@@ -393,34 +393,38 @@ impl<'r, 'a, A: Allocator + Copy> Report<'r, 'a, A> {
         }
     }
 
-    /// Adds the remarks on all texts of which it is known what they are.
+    /// Adds the remarks on some texts of which it is known what they are.
     fn push_known_controls(
         &mut self,
         trials: &mut Trials<A>,
         terminal: &Terminal<A>,
+        texts: &[KnownText<'a>],
     ) -> Result<(), AllocError>
-        ensures { OnOk result (Gains (AreAll (AreControlsOf (terminal_held terminal.now)) (known_texts self.old.on.entry))
+        ensures { OnOk result (Gains (AreAll (AreControlsOf (terminal_held terminal.now)) (texts_held texts.now))
             self.old self.new) }
     {
-        'texts: for text in self.texts() {
+        'texts: for text in texts {
             self.push_controls_of(trials, terminal, text)?;
         }
         Ok(())
     }
 
-    /// Adds the remarks on all others.
-    fn push_unknown_controls(&mut self, terminal: &Terminal<A>) -> Result<(), AllocError>
-        ensures { OnOk result (Gains (AreAll (AreUnknownControls (terminal_held terminal.now))
-            (the_unknown_texts self.old.on.entry)) self.old self.new) }
+    /// Adds the remarks on some others.
+    fn push_unknown_controls(
+        &mut self,
+        terminal: &Terminal<A>,
+        texts: &[NamedText<'a>],
+    ) -> Result<(), AllocError>
+        ensures { OnOk result (Gains (AreAll (AreUnknownControls (terminal_held terminal.now)) (unknowns_held texts.now))
+            self.old self.new) }
     {
-        let texts = unknown_texts(self.allocator(), self.entry())?;
-        'texts: for text in texts.as_slice() {
+        'texts: for text in texts {
             self.push_unknown(terminal, text)?;
         }
         Ok(())
     }
 
-    /// Adds the remarks on all texts of an entry of the terminal.
+    /// Adds the remarks on the texts of an entry of the terminal, and the one that not all were looked at.
     fn push_controls_by(
         &mut self,
         trials: &mut Trials<A>,
@@ -428,8 +432,14 @@ impl<'r, 'a, A: Allocator + Copy> Report<'r, 'a, A> {
     ) -> Result<(), AllocError>
         ensures { OnOk result (Gains (AreControlsBy (terminal_held terminal.now) self.old.on.entry) self.old self.new) }
     {
-        self.push_known_controls(trials, terminal)?;
-        self.push_unknown_controls(terminal)?;
+        let known = self.texts();
+        let unknown = unknown_texts(self.allocator(), self.entry())?;
+        let others = unknown.as_slice();
+        let (end, others_end) = (known_fitting(known), unknown_fitting(others));
+        self.push_known_controls(trials, terminal, &known[..end])?;
+        self.push_unknown_controls(terminal, &others[..others_end])?;
+        let left = are_left((end, known.len()), (others_end, others.len()));
+        self.push_if(left, Finding::NotAllTried)?;
         Ok(())
     }
 

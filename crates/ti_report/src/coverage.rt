@@ -6,6 +6,7 @@ ghost use Rattle.ti_values.specs.Ranges.{values};
 ghost use Rattle.ti_values.specs.inner.Rows.{row_of};
 ghost use Rattle.ti_report.specs.Coverages.{AreCounts, IsCount, IsCoverage, IsTriedOver};
 
+use crate::looked::{known_fitting, unknown_fitting};
 use crate::lookup::{number_named, text_named};
 use crate::subject::{known_texts, unknown_texts};
 use std::alloc::{AllocError, Allocator};
@@ -23,6 +24,8 @@ pub struct Coverage {
     pub tried: usize,
     /// Over how many values they are tried together.
     pub values: u128,
+    /// The strings that are not looked at, since all share bytes.
+    pub left: u128,
 }
 
 /// How many values a range has.
@@ -78,10 +81,13 @@ pub fn coverage_of<A: Allocator + Copy>(alloc: A, entry: &Entry<'_>) -> Result<C
     let texts = known_texts(alloc, entry)?;
     let others = unknown_texts(alloc, entry)?;
     let (tried, values) = counts_of(alloc, entry, &tried_texts(lines, columns, colors))?;
+    let known = known_fitting(texts.as_slice());
+    let unknown = unknown_fitting(others.as_slice());
     Ok(Coverage {
-        strings: widened(texts.len()) + widened(others.len()),
+        strings: widened(known) + widened(unknown),
         tried,
         values,
+        left: widened(texts.len() - known) + widened(others.len() - unknown),
     })
 }
 

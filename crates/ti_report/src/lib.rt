@@ -22,6 +22,7 @@ mod keys;
 pub mod laws;
 mod layout;
 mod lines;
+mod looked;
 mod lookup;
 mod marks;
 mod name_bytes;

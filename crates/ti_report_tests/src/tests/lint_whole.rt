@@ -131,12 +131,12 @@ fn names_with_bytes_of_no_name_are_reported(rt: HostRuntime) {
 
 /// Entries, and how much of them a report looks at.
 const COVERED: &str = r"
-bel=^G | lines#2 | cols#3 | cup=\E[%i%p1%d;%p2%dH => Coverage { strings: 2, tried: 1, values: 6 }
-bel=^G | cup=\E[%i%p1%d;%p2%dH => Coverage { strings: 2, tried: 0, values: 0 }
+bel=^G | lines#2 | cols#3 | cup=\E[%i%p1%d;%p2%dH => Coverage { strings: 2, tried: 1, values: 6, left: 0 }
+bel=^G | cup=\E[%i%p1%d;%p2%dH => Coverage { strings: 2, tried: 0, values: 0, left: 0 }
 # It is no capability.
-cols#3 | hpa=%u => Coverage { strings: 1, tried: 0, values: 0 }
+cols#3 | hpa=%u => Coverage { strings: 1, tried: 0, values: 0, left: 0 }
 # All sets of nine attributes.
-sgr=\E[0m => Coverage { strings: 1, tried: 1, values: 512 }
+sgr=\E[0m => Coverage { strings: 1, tried: 1, values: 512, left: 0 }
 ";
 
 /// How much of the entry of a row is looked at.

@@ -8,5 +8,5 @@ use Rattle.ti_report.proofs.report.Report.push_known_controls.Given as goal
 abbrev pub invariant-texts : goal.invariant-texts
 invariant-texts g l = record {
   kept : l.self.on ≡ l.initial.self.on;
-  goes : GoesOnWith (AreControlsOf (terminal_held l.terminal)) (texts_held l.text-items) (drop l.text-index (texts_held l.text-items)) l.initial.self.remarks l.self.remarks;
+  goes : GoesOnWith (AreControlsOf (terminal_held l.terminal)) (texts_held l.texts) (drop l.text-index (texts_held l.texts)) l.initial.self.remarks l.self.remarks;
 }
