@@ -1,38 +1,11 @@
 -- Names that are gone over one after another.
-use Rattle.std.proofs.Common.{◌≡◌, ◌≢◌, ◌∙◌, ◌+◌, ◌<◌, ◌≤◌, ℕ, Bool, true, false, List, MatchBool, [], ◌∷◌, ◌++◌, add-one, ap, drop, get_or, length, map, refl, sym, take, arith, if◌then◌else◌}
-use Rattle.std.proofs.lemmas.List.Folds.{list_any_at}
-use Rattle.std.proofs.lemmas.Map.Views.{Contains-from_any}
-use Rattle.std.proofs.lemmas.Slice.Eq.{bytes_eq-Decides}
-use Rattle.std.specs.Str.{bytes_eq}
-use Rattle.std.specs.Borrow.{Bor}
-use Rattle.std.specs.List.{AllWithin, Contains, HoldsAt}
+use Rattle.std.proofs.Common.{◌≡◌, ◌∙◌, ◌+◌, ◌<◌, ◌≤◌, ℕ, List, [], ◌∷◌, ◌++◌, add-one, ap, drop, get_or, length, map, sym, take, arith, if◌then◌else◌}
 use Rattle.std.proofs.Math.ListN.{drop_of_length-le}
 use Rattle.std.proofs.Math.Seq.{drop-cons, take-suc}
 use Rattle.std.proofs.lemmas.List.{get_or-map, length-map, map-append}
 use Rattle.ti_words.specs.declared.Kind.{Kind}
 use Rattle.ti_words.specs.Items.{ExtendedSubject, SubjectValue}
 use Rattle.ti_listing.specs.Differences.{has, with_new}
-
--- a name is found by comparing it with each
-pub has_from_cases : (r : Bool) (names : List (Bor (List ℕ))) (name : List ℕ)
-    → MatchBool r ((k : ℕ) × (k < length names) × HoldsAt (λ other. other.now ≡ name) names k) (AllWithin (λ other. other.now ≢ name) names 0 (length names))
-    → r ≡ has (map (λ one. one.now) names) name
-has_from_cases true [] name (k, within, held) = absurd (omega (arith, within))
-has_from_cases true (x ∷ xs) name (k, within, held) =
-    let all : List (List ℕ) = map (λ one. one.now) (x ∷ xs) in
-    let at : get_or all k name ≡ name = get_or-map (λ one. one.now) (x ∷ xs) k x name within ∙ held x in
-    sym (list_any_at (bytes_eq name) all k name (omega (arith, within, length-map (x ∷ xs) (λ one. one.now))) (ap (bytes_eq name) at ∙ (bytes_eq-Decides name name).1 refl))
-has_from_cases false [] name none = refl
-has_from_cases false (x ∷ xs) name none = go (has (map (λ one. one.now) (x ∷ xs)) name) refl
-  where
-    there : Contains (map (λ one. one.now) (x ∷ xs)) name → ⊥
-    there w =
-        let within : w.0 < length (x ∷ xs) = omega (arith, w.1, length-map (x ∷ xs) (λ one. one.now)) in
-        none w.0 x (omega arith) within (sym (get_or-map (λ one. one.now) (x ∷ xs) w.0 x name within) ∙ w.2)
-
-    go : (b : Bool) → has (map (λ one. one.now) (x ∷ xs)) name ≡ b → false ≡ has (map (λ one. one.now) (x ∷ xs)) name
-    go true is = absurd (there (Contains-from_any (λ one other same. (bytes_eq-Decides one other).0 same) name (map (λ one. one.now) (x ∷ xs)) is))
-    go false is = sym is
 
 -- the next of those that may be new
 pub next_new : (names more : List (List ℕ)) (i : ℕ) → i < length more

@@ -1,15 +1,20 @@
 //! The differences of two entries, one item after another.
 
 ghost use Rattle.std.specs.Prelude.{◌≡◌, IfOk, OnOk, map};
-ghost use Rattle.ti_words.specs.Items.{subject_value};
+ghost use Rattle.ti_words.specs.Items.{ExtendedSubject, subject_value};
+ghost use Rattle.ti_entry.specs.Finding.{names_of};
 ghost use Rattle.ti_listing.specs.Differences.{AreDifferences, AreSame, AreTold, format_difference, IsChange, IsDifference, names_difference, TellsApart, extended_of_both, standard_of_both};
 ghost use Rattle.ti_listing.specs.Values.{difference_value};
 ghost use Rattle.ti_listing.specs.inner.Differences.{Adds};
+ghost use Rattle.ti_listing.specs.inner.Names.{HasFirst};
 
 use crate::change::push_change;
 use crate::difference::Difference;
 use crate::extended_names::names_of_both;
+use crate::first_named::{first_indices, item_named};
+use crate::name_key::NameKey;
 use std::alloc::{AllocError, Allocator};
+use std::collections::BTreeMap;
 use ti_entry::Entry;
 use ti_json::{Content, Topic};
 use ti_line::Likeness;
@@ -36,6 +41,32 @@ impl<'a> Compared<'_, 'a> {
     {
         let (first, other) = (self.one.item(subject), self.other.item(subject));
         push_change(out, self.likeness, subject, first, other)
+    }
+
+    /// Adds what differs of an extended capability, by where each entry has its names first.
+    fn push_named<A: Allocator>(
+        self,
+        out: &mut Vec<Difference<'a>, A>,
+        kind: Kind,
+        name: &'a [u8],
+        of_one: &BTreeMap<NameKey<'a>, usize, A>,
+        of_other: &BTreeMap<NameKey<'a>, usize, A>,
+    ) -> Result<(), AllocError>
+        requires one { HasFirst (names_of self.one.now.extended kind) of_one.now }
+        requires other { HasFirst (names_of self.other.now.extended kind) of_other.now }
+        ensures { OnOk result (Adds
+            (IsDifference self.entry.likeness self.entry.one.now self.entry.other.now (ExtendedSubject kind name.now))
+            (map difference_value out.old.items) (map difference_value out.new.items)) }
+    {
+        let first = item_named(self.one, of_one, kind, name);
+        let other = item_named(self.other, of_other, kind, name);
+        push_change(
+            out,
+            self.likeness,
+            Subject::Extended(kind, name),
+            first,
+            other,
+        )
     }
 
     /// Adds what differs of the capabilities of terminfo(5) of a kind.
@@ -69,9 +100,11 @@ impl<'a> Compared<'_, 'a> {
             (extended_of_both self.entry.one.now self.entry.other.now kind))
             (map difference_value out.old.items) (map difference_value out.new.items)) }
     {
+        let one = first_indices(alloc, kind, &self.one.extended())?;
+        let other = first_indices(alloc, kind, &self.other.extended())?;
         let names = names_of_both(alloc, kind, self.one, self.other)?;
         for index in 0..names.len() {
-            self.push(out, Subject::Extended(kind, names[index]))?;
+            self.push_named(out, kind, names[index], &one, &other)?;
         }
         Ok(())
     }

@@ -2,8 +2,10 @@
 
 ghost use Rattle.std.specs.Prelude.{◌≡◌, ◌++◌, OnOk};
 ghost use Rattle.ti_words.specs.Items.{subject_value};
+ghost use Rattle.ti_escape.specs.Notation.{label_notation};
 ghost use Rattle.ti_listing.specs.Labels.{label_of, subject_label, subject_word as the_subject_word};
 
+use crate::plain_name::is_plain_name;
 use itoa::Buffer;
 use std::alloc::{AllocError, Allocator};
 use ti_escape::push_label as push_escaped;
@@ -44,6 +46,18 @@ fn push_standard_label<A: Allocator>(
     }
 }
 
+/// Writes a name in the notation, with its spaces escaped too. Most names are their own notation.
+#[tactic(auto, using(crate::proofs::PlainNameLemmas::plain_label))]
+fn push_name<A: Allocator>(out: &mut Vec<u8, A>, name: &[u8]) -> Result<(), AllocError>
+    ensures { OnOk result (out.new.items ≡ out.old.items ++ label_notation name.now) }
+{
+    if is_plain_name(name) {
+        out.extend_from_slice(name)
+    } else {
+        push_escaped(out, name)
+    }
+}
+
 /// Writes what a capability is called: a standard one by a table of names, or by `#` and its index if it has no name there,
 /// and an extended one by its own name.
 ///
@@ -62,7 +76,7 @@ pub fn push_label<A: Allocator>(
         Subject::Standard(kind, index) => push_standard_label(out, naming.table, kind, index),
         Subject::Extended(_, name) => match naming.form {
             NameForm::Raw => out.extend_from_slice(name),
-            NameForm::Notation => push_escaped(out, name),
+            NameForm::Notation => push_name(out, name),
         },
     }
 }

@@ -9,9 +9,12 @@ mod diff;
 mod difference;
 mod document;
 mod extended_names;
+mod first_named;
 mod label;
 mod lines;
 mod listing;
+mod name_key;
+mod plain_name;
 mod row_line;
 mod tokens;
 

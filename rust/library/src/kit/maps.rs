@@ -15,6 +15,10 @@ impl<K: Ord, V, A: Allocator> BTreeMap<K, V, A> {
     pub fn insert(&mut self, key: K, value: V) -> Result<Option<V>, AllocError> {
         Ok(self.0.insert(key, value))
     }
+
+    pub fn get(&self, key: &K) -> Option<&V> {
+        self.0.get(key)
+    }
 }
 
 /// A set in order.
