@@ -148,12 +148,21 @@ def place_named(name, tables):
     return places[0] if places else None
 
 
+def has_class(name):
+    """Whether a manual says what the user-defined text with a name is."""
+    own = name.encode(errors="surrogateescape")
+    return own[:1] == b"k" or own in lint.OWN_CLASSES
+
+
+def is_other_word(word):
+    return word[:2] not in ("n:", "s:") and not is_number(word)
+
+
 def takes_numbers_alone(name, place):
     """Whether a capability without a count takes no text: a standard one, or a user-defined one of which a manual says what it is."""
     if place:
         return place[0] != "text" or place[1] < len(CLASSES)
-    own = name.encode(errors="surrogateescape")
-    return (own[:1] == b"k" or own in lint.OWN_CLASSES) and name not in lint.TEXT_PARAMETERS
+    return has_class(name) and name not in lint.TEXT_PARAMETERS
 
 
 def must_fit(name, words, tables):
@@ -162,7 +171,7 @@ def must_fit(name, words, tables):
     place = place_named(name, tables)
     is_text = place and place[0] == "text" and place[1] < len(CLASSES)
     short, kind, count = CLASSES[place[1]] if is_text else ("", "", "0")
-    is_other = [word[:2] not in ("n:", "s:") and not is_number(word) for word in words]
+    is_other = [is_other_word(word) for word in words]
     if kind != "parameterized":
         if takes_numbers_alone(name, place) and True in is_other:
             raise Misfit(f"parameter {is_other.index(True) + 1}: no 32-bit number; an entry is named by --entry FILE")
@@ -173,6 +182,21 @@ def must_fit(name, words, tables):
     for which, other in enumerate(is_other[:1] if short in TAKE_TEXTS else is_other, 1):
         if other:
             raise Misfit(f"parameter {which} of {short}: no 32-bit number")
+
+
+def must_fit_value(command, name, kind, value, words, tables):
+    """Failed if no table has a name, and a word is no number where the value takes numbers alone."""
+    is_known = any(name in table[its_kind].values() for table in tables for its_kind in KINDS) or has_class(name)
+    is_other = [is_other_word(word) for word in words]
+    if is_known or True not in is_other or kind == "text" and (value in (ABSENT, CANCELLED) or takes_text(value)):
+        return
+    raise Failed(f"{command}: {shown_name(name)}: takes numbers; parameter {is_other.index(True) + 1}: no 32-bit number; "
+                 "an entry is named by --entry FILE")
+
+
+def takes_text(text):
+    capability.tokens_of(text)
+    return any(texts_of(text))
 
 
 def value_of(word, is_text):
@@ -197,6 +221,7 @@ def got(entry, name, tables, words, rate, lines, xon, form):
     """The status and the output, or Failed or Refused."""
     must_fit(name, words, tables)
     kind, value = item_of(entry, name, tables, "get")
+    must_fit_value("get", name, kind, value, words, tables)
     if kind == "flag":
         return (0 if value == "yes" else 1), b""
     if kind == "number":
@@ -213,6 +238,7 @@ def traced(entry, name, tables, words, escape):
     """The status and the trace, or Failed or Refused."""
     must_fit(name, words, tables)
     kind, value = item_of(entry, name, tables, "trace")
+    must_fit_value("trace", name, kind, value, words, tables)
     if kind != "text" or value in (ABSENT, CANCELLED):
         raise Failed(f"trace: {shown_name(name)}: no such text")
     return 0, capability.trace(value, parameters_of(value, words), escape)

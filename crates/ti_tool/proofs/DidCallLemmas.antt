@@ -20,10 +20,11 @@ use Rattle.ti_tool.specs.Calls.{DidCall, DidCheck, FailsAsDue, HasReadEnough, Is
 use Rattle.ti_tool.specs.Advice.{IsAdvised, advice_if, hints, kept_of, most_kept, read_text, text_advice}
 use Rattle.ti_draft.specs.declared.fault.EncodeFault.TheVariants as encode
 use Rattle.ti_report.specs.Blocks.{indented}
+use Rattle.ti_tool.specs.Pasted.{pasted_advice}
 use Rattle.ti_tool.specs.Sources.{notation_in, text_of}
 use Rattle.ti_tool.specs.declared.extras.Extras.{Extras}
 use Rattle.ti_tool.specs.FaultLines.{IsAnswerLine, action_line, fault_line}
-use Rattle.ti_tool.specs.FileRuns.{Contents, Delivered, IsInput, IsOutcomeOfInput, IsToldLast, NoMemory, RanInput, Supply, Unread, front_of, looked, pasted_of}
+use Rattle.ti_tool.specs.FileRuns.{Contents, Delivered, IsInput, IsOutcomeOfInput, NoMemory, RanInput, Supply, Unread, front_of, looked}
 use Rattle.ti_tool.specs.Results.{Finds, IsAnswer, IsDueIn}
 use Rattle.ti_tool.specs.Summaries.{IsSummarized}
 use Rattle.ti_tool.specs.Statuses.{status_for}
@@ -94,7 +95,7 @@ answer_never (Difference d) input = record { no_write = λ gone d. d; no_memory 
 -- a source that stopped gave no entry
 pub stopped : (e : EntryAction) (kept front : List ℕ) (left0 left1 : Option (List ℕ)) (new : Reading) (why : ReadStop) → FeedsFront left0 left1 new front
     → new.refusal ≡ refusal_after why → (supply : Supply) × IsInput (Entry e) left0 left1 supply × HasFault (Entry e) kept front supply (stop_fault why)
-stopped e kept front left0 left1 new stop.Io (bytes, took, fed, same) none = (Unread, (bytes, took), (refl, tt))
+stopped e kept front left0 left1 new stop.Io (bytes, took, fed, same) none = (Unread, (bytes, took), refl)
 stopped e kept front left0 left1 new (stop.Refused refused) (bytes, took, fed, same) some =
     let failed = sym (ap (λ r. r.refusal) fed) ∙ some in
     (Contents bytes, (took, inl (refused, failed)), (inr (inl (refused, failure_refuses bytes refused failed, refl)), same))
@@ -119,7 +120,7 @@ module _ (action : Action) (left0 left1 : Option (List ℕ)) where
   pub failed_call : (supply : Supply) (kept front : List ℕ) (held : Option (List ℕ)) (e : ToolFault) → IsInput action left0 left1 supply → HasFault action kept front supply e
       → DidCheck (IsAnswer action) (IsEnough action) left0 left1 held held (Err e)
   failed_call (Contents bytes) kept front held e (read, at) (due, same) = (true, tt, did_fail (IsAnswer action true) (IsEnough action) left0 left1 held bytes e read at (answer_never action bytes) due)
-  failed_call Unread kept front held e (bytes, read) (is, none) =
+  failed_call Unread kept front held e (bytes, read) is =
       let Did : ToolFault → Type 0 = λ f. DidCall (IsAnswer action true) (IsEnough action) left0 left1 held held (Err f) in
       (true, tt, subst Did (sym is) (record { input = bytes; read = read; ended = tt; wrote = Keeps-refl held }))
   failed_call NoMemory kept front held e none h = absurd none
@@ -196,6 +197,8 @@ told_of_kept true (Capability c) kept front bytes (fault.Cap r) line same (near,
     (near, are, (advice, advised ∙ ap (λ t. text_advice t r) (ap kept_of same ∙ kept_twice bytes), says))
 told_of_kept true (Source c) kept front bytes (fault.Cap r) line same (near, are, (advice, advised, says)) =
     (near, are, (advice, advised ∙ ap (λ t. advice_if (read_text (text_of (notation_in t))) r) (ap kept_of same ∙ kept_twice bytes), says))
+told_of_kept true (Source c) kept front bytes fault.HasName line same (near, are, (advice, advised, says)) =
+    (near, are, (advice, advised ∙ ap pasted_advice (ap kept_of same ∙ kept_twice bytes), says))
 told_of_kept true (Capability c) kept front bytes why line same is = is
 told_of_kept true (Source c) kept front bytes why line same is = is
 told_of_kept true (Difference d) kept front bytes why line same is = is
@@ -217,15 +220,14 @@ module _ (has_advice : Bool) (action : Action) where
       let Of : List ℕ → List ℕ → Type 0 = λ f x. IsAnswerLine {V = Bool} (hints has_advice (front_of action f)) action x (Err why) told in
       let of_kept = subst (Of front) holds (subst (λ (f : List ℕ). Of f held) starts is_told) in
       (Err why, is, (due, none, (told, told_of_kept has_advice action kept front input why told is_kept of_kept, same)))
-  fault_leads Unread kept held front text why told bytes line status (read, kept_none) holds starts is_told same none is =
+  fault_leads Unread kept held front text why told bytes line status read holds starts is_told same none is =
       (none, same ∙ read_told has_advice action (front_of action text) held told why read is_told, is ∙ ap (λ w. status_for (Err w)) read)
-  fault_leads NoMemory kept held front text why told bytes line status (read, kept_none) holds starts is_told same none is =
+  fault_leads NoMemory kept held front text why told bytes line status read holds starts is_told same none is =
       (none, same ∙ read_told has_advice action (front_of action text) held told why read is_told, is ∙ ap (λ w. status_for (Err w)) read)
 
 module _ (action : Action) where
   -- a request of standard input that leads to something, which is delivered
-  pub ran_input : (extras : Extras) (supply : Supply) (V : Type 0) (before between summed after : Streams) (out line : List ℕ) (code status : ℕ) → IsInput action before.left between.left supply → IsOutcomeOfInput extras.has_advice action supply out line code
+  pub ran_input : (extras : Extras) (supply : Supply) (V : Type 0) (before between after : Streams) (out line : List ℕ) (code status : ℕ) → IsInput action before.left between.left supply → IsOutcomeOfInput extras.has_advice action supply out line code
       → ((answer : Option ℕ) × Delivered extras.has_advice before.held between.held before.told between.told answer out line code × (status ≡ unwrap_or answer 5) × IfSome answer (λ s. 1 < s → V))
-      → IsSummarized extras.summary (looked supply status) between summed → IsToldLast (pasted_of action supply) summed after → RanInput extras action V before after status
-  ran_input extras supply V before between summed after out line code status read led delivered sums last =
-      (supply, between, summed, read, (out, line, code, led, delivered), sums, last)
+      → IsSummarized extras.summary (looked supply status) between after → RanInput extras action V before after status
+  ran_input extras supply V before between after out line code status read led delivered sums = (supply, between, read, (out, line, code, led, delivered), sums)

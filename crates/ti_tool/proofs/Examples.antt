@@ -1,13 +1,14 @@
 -- Worked rows of the definitions.
 use Rattle.std.proofs.Common.{◌≡◌, [], ◌∷◌, ◌++◌, true, false, arith, inl, inr, refl, take}
 use Rattle.std.specs.Fmt.{digits}
-use Rattle.std.specs.Prelude.{codes, pos}
+use Rattle.std.specs.Prelude.{Err, codes, pos}
 use Rattle.ti_cap.specs.declared.language.CapFault.TheVariants.{CutShort}
 use Rattle.ti_cap.specs.declared.language.CapRefused.{CapRefused}
 use Rattle.ti_escape.specs.declared.color.Color.TheVariants.{Never}
 use Rattle.ti_json.specs.Rows.{HasFault, HasLimits, OfCapability, RowValue}
 use Rattle.ti_line.specs.declared.options.NameForm.TheVariants.{Notation}
 use Rattle.ti_line.specs.declared.options.Verdicts.TheVariants.{All, Faults}
+use Rattle.ti_lint.specs.ExtendedClasses.{extended_classes}
 use Rattle.ti_names.specs.NameLists.{all_flags, all_numbers, all_texts}
 use Rattle.ti_report.specs.declared.finding.Finding.TheVariants.{Size}
 use Rattle.ti_words.specs.declared.Flag.TheVariants as flags
@@ -19,8 +20,11 @@ use Rattle.ti_tool.specs.Explained.{IsExplained, unknown_line}
 use Rattle.ti_tool.specs.FileRuns.{IsReason}
 use Rattle.ti_tool.specs.Files.{shown_file}
 use Rattle.ti_tool.specs.ItemNames.{IsKindLabel}
-use Rattle.ti_tool.specs.Pasted.{pasted_line}
+use Rattle.ti_tool.specs.Pasted.{pasted_advice}
 use Rattle.ti_tool.specs.Sentences.{front_sentence, most_front}
+use Rattle.ti_tool.specs.Sources.{text_in_source}
+use Rattle.ti_tool.specs.Unfit.{is_unknown}
+use Rattle.ti_tool.specs.declared.fault.ToolFault.TheVariants.{HasName}
 use Rattle.ti_tool.specs.declared.item_name.Names.TheVariants as names
 use Rattle.ti_tool.specs.Verdicts.{is_pattern, written}
 use Rattle.ti_tool.specs.WideNumbers.{first_wide, wide_advice}
@@ -45,9 +49,22 @@ reason_row : IsReason true (codes "  No space left on device\n")
 reason_row = inr (codes "No space left on device", refl, refl)
 
 -- a line of a source of terminfo
-pasted_row : pasted_line (codes "bel=^G,") ≡ codes "  this starts with bel=: give the string alone, without a comma at its end\n"
+pasted_row : pasted_advice (codes "bel=^G,") ≡ codes "  this starts with bel=: give the string alone, without a comma at its end\n"
 unfolding all_flags all_numbers all_texts
 pasted_row = refl
+
+source_row : text_in_source (codes "bel=^G,") ≡ Err HasName
+unfolding all_flags all_numbers all_texts
+source_row = refl
+
+-- of `Foo` no manual says anything, of `cup` one does
+own_name_row : is_unknown (codes "Foo") ≡ true
+unfolding all_flags all_numbers all_texts extended_classes
+own_name_row = refl
+
+table_name_row : is_unknown (codes "cup") ≡ false
+unfolding all_flags all_numbers all_texts
+table_name_row = refl
 
 -- where nothing differs nothing is written
 silent_row : headed_lines Never (codes "a") (codes "b") [] ≡ []

@@ -19,6 +19,7 @@ use Rattle.ti_tool.specs.Expansions.{IsPadded}
 use Rattle.ti_tool.specs.Got.{IsDueBy, IsTextResult, IsValueResult}
 use Rattle.ti_tool.specs.Traces.{IsTraced, IsTracedBy, IsTracedValue}
 use Rattle.ti_tool.specs.Results.{IsDue, IsOutputOf}
+use Rattle.ti_tool.specs.Pasted.{has_name}
 use Rattle.ti_tool.specs.Sources.{IsDueForSource, IsDueForText, most_notation_chars, notation_in, text_read, too_long}
 
 -- the faults of a call itself are not due
@@ -36,15 +37,16 @@ output_never (of_cap.Cap output) parameters input = record { no_write = λ gone 
 output_never (of_cap.Trace form) parameters input = record { no_write = λ gone d. d; no_memory = λ d. d }
 
 -- of a text that is read, or of the fault of its notation
-text_or_fault_never : (due : List ℕ → Result (List ℕ) ToolFault → Type 0) → ((text : List ℕ) → IsNeverOwn (due text)) → (long : Bool) (read : Result (List ℕ) NotationRefused)
-    → IsNeverOwn (IsDueForText due (cond long (Err (fault.Cap too_long)) (text_read read)))
-text_or_fault_never due never true read = record { no_write = λ gone d. cc; no_memory = λ d. cc }
-text_or_fault_never due never false (Ok text) = never text
-text_or_fault_never due never false (Err refused) = record { no_write = λ gone d. cc; no_memory = λ d. cc }
+text_or_fault_never : (due : List ℕ → Result (List ℕ) ToolFault → Type 0) → ((text : List ℕ) → IsNeverOwn (due text)) → (named long : Bool) (read : Result (List ℕ) NotationRefused)
+    → IsNeverOwn (IsDueForText due (cond named (Err fault.HasName) (cond long (Err (fault.Cap too_long)) (text_read read))))
+text_or_fault_never due never true long read = record { no_write = λ gone d. cc; no_memory = λ d. cc }
+text_or_fault_never due never false true read = record { no_write = λ gone d. cc; no_memory = λ d. cc }
+text_or_fault_never due never false false (Ok text) = never text
+text_or_fault_never due never false false (Err refused) = record { no_write = λ gone d. cc; no_memory = λ d. cc }
 
 pub source_never : (c : CapabilityResult) (parameters : List Value) (input : List ℕ) → IsNeverOwn (IsDueForSource (IsOutputOf c parameters) input)
 source_never c parameters input =
-    text_or_fault_never (IsOutputOf c parameters) (output_never c parameters) (nat_lt most_notation_chars (length (notation_in input))) (reading (notation_in input))
+    text_or_fault_never (IsOutputOf c parameters) (output_never c parameters) (has_name input) (nat_lt most_notation_chars (length (notation_in input))) (reading (notation_in input))
 
 -- of a text with parameters that words gave
 by_never : (text : List ℕ) (given : Given) (due : List Value → Result (List ℕ) ToolFault → Type 0) → ((parameters : List Value) → IsNeverOwn (due parameters)) → IsNeverOwn (IsDueBy text given due)

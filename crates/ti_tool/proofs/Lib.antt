@@ -1,9 +1,9 @@
 pub mod Examples
 pub mod IsDueLemmas
 pub mod SourcesLemmas
+pub mod UnfitLemmas
 pub mod FrontLemmas
 pub mod DidCallLemmas
-pub mod PastedLemmas
 pub mod EditsLemmas
 pub mod NearLemmas
 pub mod NearPartLemmas

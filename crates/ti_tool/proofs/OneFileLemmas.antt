@@ -27,9 +27,11 @@ use Rattle.ti_tool.specs.Near.{AreNearest}
 use Rattle.ti_tool.specs.Laws.{AreOneLine, FileHasOneResult, HasOneVerdict, InputHasOneResult, RunsHaveOneResult, untold_line}
 use Rattle.ti_tool.specs.Results.{Finds, IsAnswer, IsDueIn, IsDueOf}
 use Rattle.ti_tool.specs.Statuses.{status_for}
+use Rattle.ti_tool.specs.Unfit.{IsDueIfFit}
 use Rattle.ti_tool.specs.WideNumbers.{IsWideAdvice, first_wide, wide_advice}
 use Rattle.ti_tool.specs.declared.item_name.Names.TheVariants.{All, Texts}
 use Rattle.ti_tool.proofs.IsItemCalledLemmas.{one_item}
+use Rattle.ti_tool.proofs.UnfitLemmas.{fit_output}
 use Rattle.ti_tool.proofs.NearLemmas.{one_nearest}
 use Rattle.ti_tool.proofs.NeedsMemoryLemmas.{never_refused}
 use Rattle.ti_tool.proofs.OneResultLemmas.{one_answer, one_objects, one_of, one_verdicts}
@@ -60,7 +62,8 @@ one_in before (of_entry.Expand e) input v out outs passed as_passed d h f g = f 
 one_in before (of_entry.Convert width) input v out outs passed as_passed d h f g = f ∙ sym g
 one_in before (of_entry.Trace t) input v out outs passed as_passed d h f g = f ∙ sym g
 one_in before (of_entry.Get get) input v out outs passed as_passed (item, called, d) (other, again, h) f g =
-    one_set item get passed as_passed (Ok out) (Ok outs) d (subst (λ i. IsValueResult i get as_passed (Ok outs)) (one_item All v get.name.now other item again called) h)
+    let same = subst (λ i. IsDueIfFit get.name.now get.given i (IsValueResult i get as_passed) (Ok outs)) (one_item All v get.name.now other item again called) h in
+    one_set item get passed as_passed (Ok out) (Ok outs) (fit_output get.name.now get.given item (IsValueResult item get passed) out d) (fit_output get.name.now get.given item (IsValueResult item get as_passed) outs same)
 
 one_sound : (before : List ℕ) (e : EntryAction) (input out outs : List ℕ) (passed as_passed : Bool) → IsDueOf before e passed input (Ok out)
     → IsDueOf before e as_passed input (Ok outs) → Finds (Entry e) passed → Finds (Entry e) as_passed → passed ≡ as_passed
@@ -116,6 +119,7 @@ one_wide_advice input advice other (inr (v, spells, is)) (inr (w, spelt, too)) =
 one_advice : (front : List ℕ) (action : Action) (input : List ℕ) (why : ToolFault) (advice other : List ℕ) → IsAdvice front action input why advice → IsAdvice front action input why other → advice ≡ other
 one_advice front (Capability c) input (fault.Cap refused) advice other is too = is ∙ sym too
 one_advice front (Source c) input (fault.Cap refused) advice other is too = is ∙ sym too
+one_advice front (Source c) input fault.HasName advice other is too = is ∙ sym too
 one_advice front (Entry e) input (fault.Cap refused) advice other is too = one_entry_advice e input refused advice other is too
 one_advice front (Entry e) input (fault.Encode encode.NumberOutOfRange) advice other is too = one_wide_advice input advice other is too
 one_advice front action input why advice other is too = is ∙ sym too

@@ -47,7 +47,7 @@ use Rattle.ti_line.specs.declared.options.Document.{Document}
 use Rattle.ti_line.specs.declared.options.Document.TheVariants as documents
 use Rattle.ti_tool.specs.Documents.{AreObjects, IsDocument}
 use Rattle.ti_tool.specs.Results.{IsExpansion, IsUnexpanded, IsCappedAs, IsPadded, IsDue, IsDueFor, IsDueFrom, IsDueIn, IsDueOf, IsEncoding, IsJudgement, IsLinted, IsOutputOf, in_width}
-use Rattle.ti_tool.specs.Sources.{IsDueForText, notation_in, text_of}
+use Rattle.ti_tool.specs.Sources.{IsDueForText, text_in_source}
 use Rattle.ti_line.specs.declared.options.TraceForm.{TraceForm}
 use Rattle.ti_line.specs.declared.options.TraceForm.TheVariants as trace_forms
 use Rattle.ti_tool.specs.Traces.{IsTraceAs, IsTraced, IsTracedBy, IsTracedOf, IsTracedValue, no_values}
@@ -57,6 +57,8 @@ use Rattle.ti_json.specs.Rows.{ContentValue, HasFault, HasLimits, RowValue}
 use Rattle.ti_json.specs.Rows.{OfCapability as on_capability}
 use Rattle.ti_listing.specs.Listing.{row_lines}
 use Rattle.ti_line.specs.declared.options.Verdicts.{Verdicts}
+use Rattle.ti_tool.specs.Unfit.{IsDueIfFit}
+use Rattle.ti_tool.proofs.UnfitLemmas.{fit_never, fit_once}
 use Rattle.ti_tool.specs.Verdicts.{AreRows, AreVerdictObjects, AreVerdicts, HasRows, IsJudged, are_sound, written}
 use Rattle.ti_line.specs.declared.given.Given.{Given}
 use Rattle.ti_line.specs.declared.request.Get.{Get}
@@ -287,7 +289,8 @@ one_value (Some (TextItem (TextOf text))) g set as_set r s d h = one_text text g
 
 one_got : (g : Get) (set as_set : Bool) (v : EntryValue) (r s : Result (List ℕ) ToolFault) → IsGot g set v r → IsGot g as_set v s → r ≡ s
 one_got g set as_set v r s (item, called, d) (other, again, h) =
-    one_value item g set as_set r s d (subst (λ i. IsValueResult i g as_set s) (one_item All v g.name.now other item again called) h)
+    fit_once g.name.now g.given item (IsValueResult item g set) (IsValueResult item g as_set) (one_value item g set as_set) r s d
+    (subst (λ i. IsDueIfFit g.name.now g.given i (IsValueResult i g as_set) s) (one_item All v g.name.now other item again called) h)
 
 -- ---- traces of capabilities
 
@@ -306,7 +309,8 @@ one_traced_value (Some (TextItem (TextOf text))) t r s d h = one_traced_by text 
 
 one_traced_of : (t : TraceOf) (v : EntryValue) → IsOneResult (IsTracedOf t v)
 one_traced_of t v r s (item, called, d) (other, again, h) =
-    one_traced_value item t r s d (subst (λ i. IsTracedValue i t s) (one_item All v t.name.now other item again called) h)
+    fit_once t.name.now t.given item (IsTracedValue item t) (IsTracedValue item t) (one_traced_value item t) r s d
+    (subst (λ i. IsDueIfFit t.name.now t.given i (IsTracedValue i t) s) (one_item All v t.name.now other item again called) h)
 
 -- ---- documents
 
@@ -360,7 +364,7 @@ one_of before e passed as_passed input r s d h =
 
 pub one_answer : HasOneAnswer
 one_answer (Capability c) input passed as_passed r s d h = one_output c.result c.parameters.values input r s d h
-one_answer (Source c) input passed as_passed r s d h = one_for_text c.result c.parameters.values (text_of (notation_in input)) r s d h
+one_answer (Source c) input passed as_passed r s d h = one_for_text c.result c.parameters.values (text_in_source input) r s d h
 one_answer (Difference e) input passed as_passed r s d h = elim d [ ]
 one_answer (Entry e) input passed as_passed r s d h = one_of [] e passed as_passed input r s d h
 
@@ -377,12 +381,12 @@ on_entry_never (of_entry.Expand e) passed input v = record {
 }
 on_entry_never (of_entry.Convert width) passed input v = record { no_write = λ gone d. d; no_memory = λ d. d }
 on_entry_never (of_entry.Get g) passed input v = record {
-  no_write = λ gone (item, called, d). (value_never item g passed).no_write gone d;
-  no_memory = λ (item, called, d). (value_never item g passed).no_memory d;
+  no_write = λ gone (item, called, d). (fit_never g.name.now g.given item (IsValueResult item g passed) (value_never item g passed)).no_write gone d;
+  no_memory = λ (item, called, d). (fit_never g.name.now g.given item (IsValueResult item g passed) (value_never item g passed)).no_memory d;
 }
 on_entry_never (of_entry.Trace t) passed input v = record {
-  no_write = λ gone (item, called, d). (traced_never item t).no_write gone d;
-  no_memory = λ (item, called, d). (traced_never item t).no_memory d;
+  no_write = λ gone (item, called, d). (fit_never t.name.now t.given item (IsTracedValue item t) (traced_never item t)).no_write gone d;
+  no_memory = λ (item, called, d). (fit_never t.name.now t.given item (IsTracedValue item t) (traced_never item t)).no_memory d;
 }
 
 -- of the bytes of an entry

@@ -29,6 +29,7 @@ use Rattle.ti_line.specs.declared.options.Output.TheVariants as outputs
 use Rattle.ti_line.specs.declared.options.Verdicts.{Verdicts}
 use Rattle.ti_line.specs.declared.options.Verdicts.TheVariants.{All, Faults}
 use Rattle.ti_pad.specs.Setting.{Setting}
+use Rattle.ti_tool.proofs.UnfitLemmas.{fit_output}
 use Rattle.ti_tool.specs.Got.{IsTextResult, IsValueResult, number_or_none, number_result}
 use Rattle.ti_listing.specs.Labels.{extended_label, names_in_form, subject_label, subject_word}
 use Rattle.ti_json.specs.Rows.{ContentValue, HasFault, HasFormat, HasLimits, HasNames, HasNumber, HasText, InState, IsSet, OfCapability, OfFormat, OfNames, RowValue, TopicValue, entry_rows, is_absent}
@@ -233,7 +234,7 @@ got_text text given setting output out e due = go given (let P : Output → Type
 
 pub got_lines : GetIsPrintable
 got_lines g set input out e (inl (refused, is, same)) = absurd cc
-got_lines g set input out e (inr (v, spells, (item, called, due))) = go item due
+got_lines g set input out e (inr (v, spells, (item, called, due))) = go item (fit_output g.name.now g.given item (IsValueResult item g set) out due)
   where
     go : (item : Option ItemValue) → IsValueResult item g set (Ok out) → ArePrintableLines 0 out ⊎ ArePrintableLines 1 out
     go None (s, same) = absurd cc

@@ -1,12 +1,12 @@
 -- What is counted for a summary, and when it is told.
-use Rattle.std.proofs.Common.{◌≡◌, ℕ, List, [], ◌∷◌, ◌++◌, true, false, ◌∙◌, ap, arith, refl, inr, subst}
+use Rattle.std.proofs.Common.{◌≡◌, ◌==◌, ℕ, List, [], ◌∷◌, ◌++◌, true, false, ◌∙◌, ap, append_assoc, arith, cond, refl, inr, subst, sym}
 use Rattle.std.specs.Prelude.{Bool, Option, Some, None, codes, nat_le, ◌≤◌, ◌<◌}
-use Rattle.std.proofs.lemmas.Bool.{le-leb, leb-true}
+use Rattle.std.proofs.lemmas.Bool.{eqb-true, le-leb, leb-true}
 use Rattle.ti_lint.specs.declared.lint_options.LintOptions.{LintOptions}
 use Rattle.ti_line.specs.declared.request.Action.{Action}
 use Rattle.ti_tool.specs.FileRuns.{Contents, NoMemory, Supply, Unread, looked}
 use Rattle.ti_tool.specs.Streams.{Streams}
-use Rattle.ti_tool.specs.Summaries.{AreTallied, IsSummarized, IsTally, no_tally, tally_with, with_commas}
+use Rattle.ti_tool.specs.Summaries.{AreTallied, IsSummarized, IsTally, counted, left_counted, no_tally, tally_with, with_commas}
 use Rattle.ti_tool.specs.declared.summary.Tally.{Tally}
 use Rattle.ti_tool.specs.inner.Answered.{HasOutput, Keeps, held_of}
 use Rattle.ti_tool.specs.inner.Tallies.{HasContents, IsCounted, IsLooked}
@@ -67,7 +67,29 @@ parts a b c d e f g part1 part2 part3 part4 part5 part6 a0 b0 c0 d0 e0 f0 g0 =
     let f1 : f ≡ part1 ++ part2 ++ part3 ++ part4 ++ part5 = f0 ∙ ap (λ x. x ++ part5) e1 in
     g0 ∙ ap (λ x. x ++ part6) f1
 
+pub parts_more : (g h i before part7 part8 : List ℕ) → g ≡ before → h ≡ g ++ part7 → i ≡ h ++ part8 → i ≡ before ++ part7 ++ part8
+parts_more g h i before part7 part8 is h0 i0 = i0 ∙ ap (λ x. x ++ part8) (h0 ∙ ap (λ x. x ++ part7) is)
+
+-- what is left is told if there is any
+abbrev told : ℕ → List ℕ
+told n = codes ", " ++ counted n (codes " not looked at") (codes " not looked at")
+
+some_left : (n : ℕ) → (n ≡ 0 → ⊥) → left_counted n ≡ told n
+some_left n some = go (n == 0) refl
+  where
+    go : (none : Bool) → (n == 0) ≡ none → cond none [] (told n) ≡ told n
+    go true is = absurd (some (eqb-true n 0 is))
+    go false is = refl
+
+pub told_left : (n : ℕ) (old next new : List ℕ) → (n ≡ 0 → ⊥) → next ≡ old ++ codes ", " → new ≡ next ++ counted n (codes " not looked at") (codes " not looked at") → new ≡ old ++ left_counted n
+told_left n old next new some comma words =
+    let count = counted n (codes " not looked at") (codes " not looked at") in
+    words ∙ ap (λ l. l ++ count) comma ∙ append_assoc old (codes ", ") count ∙ ap (λ l. old ++ l) (sym (some_left n some))
+
 -- worked rows
+none_left_row : left_counted 0 ≡ []
+none_left_row = refl
+
 many_row : with_commas (codes "1234567") ≡ codes "1,234,567"
 many_row = refl
 

@@ -17,6 +17,7 @@ use Rattle.ti_tool.specs.declared.fault.ToolFault.{ToolFault}
 use Rattle.ti_tool.specs.declared.fault.ToolFault.TheVariants as fault
 use Rattle.ti_tool.specs.declared.item_name.Names.TheVariants.{All, Texts}
 use Rattle.ti_tool.specs.ItemNames.{IsItemCalled, place_by}
+use Rattle.ti_tool.specs.Pasted.{pasted_advice}
 use Rattle.ti_tool.specs.Sentences.{cap_sentence, encode_sentence, entry_sentence, notation_sentence}
 use Rattle.ti_tool.specs.Sources.{notation_in, text_of}
 use Rattle.ti_tool.specs.WideNumbers.{IsWideAdvice}
@@ -108,6 +109,7 @@ abbrev pub IsAdvice : List ℕ → Action → List ℕ → ToolFault → List �
 IsAdvice front (Capability c) input (fault.Cap refused) advice = advice ≡ text_advice (kept_of input) refused
 IsAdvice front (Source c) input (fault.Cap refused) advice =
     advice ≡ advice_if (read_text (text_of (notation_in (kept_of input)))) refused
+IsAdvice front (Source c) input fault.HasName advice = advice ≡ pasted_advice (kept_of input)
 IsAdvice front (Entry e) input (fault.Cap refused) advice = IsEntryAdvice e input refused advice
 IsAdvice front (Entry e) input (fault.Encode encode.NumberOutOfRange) advice = IsWideAdvice input advice
 IsAdvice front action input e advice = advice ≡ plain_advice front action e

@@ -27,6 +27,15 @@ use Rattle.ti_line.specs.declared.no_request.LineFault.TheVariants as line
 abbrev pub place_line : List ℕ → List ℕ → ℕ → List ℕ
 place_line subject name place = subject ++ name ++ codes " at " ++ decimal place ++ codes "\n"
 
+-- what is said of a word that may name a file
+abbrev pub entry_hint : Bool → List ℕ
+entry_hint true = codes "; an entry is named by --entry FILE"
+entry_hint false = []
+
+-- the line on a word of something that takes numbers alone
+abbrev pub only_numbers_line : ℕ → List ℕ
+only_numbers_line which = codes "parameter " ++ decimal which ++ codes ": no 32-bit number" ++ entry_hint true ++ codes "\n"
+
 -- the line on the fault of a call
 abbrev pub fault_line : ToolFault → List ℕ
 fault_line (fault.Entry refused) =
@@ -36,8 +45,10 @@ fault_line (fault.Cap refused) =
     place_line (codes "capability: ") (cap_fault_word refused.fault) refused.place
 fault_line (fault.Source refused) =
     place_line (codes "source: ") (notation_fault_word refused.fault) refused.place
+fault_line fault.HasName = place_line (codes "source: ") (codes "HasName") 0
 fault_line fault.NoSuchText = codes "capability: absent\n"
 fault_line fault.NoSuchName = codes "capability: absent\n"
+fault_line (fault.OnlyNumbers which) = only_numbers_line which
 fault_line (fault.TextTooLong parameter) =
     codes "capability: TextTooLong " ++ decimal parameter ++ codes "\n"
 fault_line (fault.TooMuch need) = codes "capability: TooMuch " ++ decimal need ++ codes "\n"
@@ -54,11 +65,6 @@ words_line (words.BadWord which) = codes "parameter " ++ decimal which ++ codes 
 abbrev pub text_named : ℕ → List ℕ
 text_named text = shown_name (unwrap_or (name_in tables.All kinds.Text text) [])
 
--- what is said of a word that may name a file
-abbrev pub entry_hint : Bool → List ℕ
-entry_hint true = codes "; an entry is named by --entry FILE"
-entry_hint false = []
-
 -- the lines on parameters that do not fit a text
 abbrev pub surplus_line : ℕ → ℕ → ℕ → Bool → List ℕ
 surplus_line text takes given is_named =
@@ -68,9 +74,6 @@ surplus_line text takes given is_named =
 abbrev pub no_number_line : ℕ → ℕ → List ℕ
 no_number_line text which =
     codes "parameter " ++ decimal which ++ codes " of " ++ text_named text ++ codes ": no 32-bit number\n"
-
-abbrev pub only_numbers_line : ℕ → List ℕ
-only_numbers_line which = codes "parameter " ++ decimal which ++ codes ": no 32-bit number" ++ entry_hint true ++ codes "\n"
 
 -- the usage of `diff`, as its help has it
 abbrev pub diff_usage : List ℕ
@@ -106,6 +109,10 @@ near_part = names_after (codes "; nearest: ")
 abbrev pub no_name_line : List (List ℕ) → List ℕ
 no_name_line near = codes ": no such capability" ++ near_part near ++ codes "\n"
 
+-- what comes after the name of a value that takes numbers alone
+abbrev pub takes_numbers_line : ℕ → List ℕ
+takes_numbers_line which = codes ": takes numbers; " ++ only_numbers_line which
+
 -- the line on the fault of a call, by what was asked for: `get`, and `trace` of an entry, name the
 -- capability
 abbrev pub action_line : Action → List (List ℕ) → ToolFault → List ℕ
@@ -113,10 +120,14 @@ action_line (Entry (of_entry.Get g)) near fault.NoSuchText =
     codes "get: " ++ shown_name g.name.now ++ codes ": absent\n"
 action_line (Entry (of_entry.Get g)) near fault.NoSuchName =
     codes "get: " ++ shown_name g.name.now ++ no_name_line near
+action_line (Entry (of_entry.Get g)) near (fault.OnlyNumbers which) =
+    codes "get: " ++ shown_name g.name.now ++ takes_numbers_line which
 action_line (Entry (of_entry.Trace t)) near fault.NoSuchText =
     codes "trace: " ++ shown_name t.name.now ++ codes ": no such text\n"
 action_line (Entry (of_entry.Trace t)) near fault.NoSuchName =
     codes "trace: " ++ shown_name t.name.now ++ no_name_line near
+action_line (Entry (of_entry.Trace t)) near (fault.OnlyNumbers which) =
+    codes "trace: " ++ shown_name t.name.now ++ takes_numbers_line which
 action_line action near e = fault_line e
 
 -- the nearest names are told of those that there are for the entry that the bytes spell; none if memory was refused

@@ -4,7 +4,6 @@ use Rattle.std.specs.List.{flat_map, list_any}
 use Rattle.ti_base.specs.Letters.{letter}
 use Rattle.std.specs.Io.KnownBytes.{Appends, Consumes, IsAtEnd}
 use Rattle.ti_line.specs.CommandLine.{is_minus}
-use Rattle.ti_line.specs.declared.options.Document.TheVariants as documents
 use Rattle.ti_line.specs.declared.request.Action.{Action}
 use Rattle.ti_line.specs.declared.request.Action.TheVariants.{Entry}
 use Rattle.ti_line.specs.declared.request.EntryAction.{EntryAction}
@@ -13,8 +12,7 @@ use Rattle.ti_tool.specs.declared.fault.ToolFault.{ToolFault}
 use Rattle.ti_tool.specs.declared.fault.ToolFault.TheVariants as fault
 use Rattle.ti_tool.specs.declared.extras.Extras.{Extras}
 use Rattle.ti_report.specs.Blocks.{indented}
-use Rattle.ti_tool.specs.Advice.{hints, kept_of}
-use Rattle.ti_tool.specs.Pasted.{pasted_in}
+use Rattle.ti_tool.specs.Advice.{hints}
 use Rattle.ti_tool.specs.Calls.{FailsAsDue, IsEnough}
 use Rattle.ti_tool.specs.FaultLines.{IsAnswerLine, Told, fault_line}
 use Rattle.ti_tool.specs.Files.{IsDueOfFile, before_findings, file_line}
@@ -203,29 +201,12 @@ IsOutcomeOfInput has_advice action (Contents bytes) out line status =
 IsOutcomeOfInput has_advice action _ out line status =
     (out ≡ []) × (line ≡ fault_line fault.Read) × (status ≡ 5)
 
--- what is said of a notation that has a name before it
-abbrev pub pasted_of : Action → Supply → List ℕ
-pasted_of action (Contents bytes) = pasted_in action (kept_of bytes)
-pasted_of action _ = []
-
--- a line comes after all others, if there is one
-abbrev pub IsToldLast : List ℕ → Streams → Streams → Type 0
-IsToldLast [] before after = after ≡ before
-IsToldLast (b ∷ bs) before after =
-    (after.left ≡ before.left) × (after.held ≡ before.held) × Told (b ∷ bs) before.told after.told
-
--- a request of it was carried out, and what was looked at is told if that is wanted, and what is said of a notation
+-- a request of it was carried out, and what was looked at is told if that is wanted
 abbrev pub RanInput : Extras → Action → Type 0 → Streams → Streams → ℕ → Type 0
 RanInput extras action unwritten before after status =
-    (supply : Supply) × (between : Streams) × (summed : Streams) × IsInput action before.left between.left supply
+    (supply : Supply) × (between : Streams) × IsInput action before.left between.left supply
     × Ends extras.has_advice (IsOutcomeOfInput extras.has_advice action supply) unwritten before between status
-    × IsSummarized extras.summary (looked supply status) between summed
-    × IsToldLast (pasted_of action supply) summed after
-
--- nothing is said of what a request may read
-abbrev pub HasNoName : Action → Stream → Stream → Type 0
-HasNoName action left0 left1 =
-    (bytes : List ℕ) → IsInput action left0 left1 (Contents bytes) → pasted_in action (kept_of bytes) ≡ []
+    × IsSummarized extras.summary (looked supply status) between after
 
 -- ---- one after another
 

@@ -24,6 +24,7 @@ use Rattle.ti_line.specs.declared.request.Get.{Get}
 use Rattle.ti_line.specs.Options.{output_bytes}
 use Rattle.ti_tool.specs.Expansions.{IsPadded}
 use Rattle.ti_tool.specs.ItemNames.{IsItemCalled}
+use Rattle.ti_tool.specs.Unfit.{IsDueIfFit}
 use Rattle.ti_tool.specs.declared.item_name.Names.TheVariants.{All}
 use Rattle.ti_tool.specs.declared.fault.ToolFault.{ToolFault}
 use Rattle.ti_tool.specs.declared.fault.ToolFault.TheVariants as fault
@@ -110,4 +111,5 @@ IsValueResult None g set answer = (set ≡ true) × (answer ≡ Err fault.NoSuch
 -- what is due for the capability of an entry that the name means
 abbrev pub IsGot : Get → Bool → EntryValue → Result (List ℕ) ToolFault → Type 0
 IsGot g set v answer =
-    (item : Option ItemValue) × IsItemCalled All g.name.now v item × IsValueResult item g set answer
+    (item : Option ItemValue) × IsItemCalled All g.name.now v item
+    × IsDueIfFit g.name.now g.given item (IsValueResult item g set) answer

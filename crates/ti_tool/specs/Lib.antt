@@ -2,6 +2,7 @@ pub mod Documents
 pub mod Verdicts
 pub mod ItemNames
 pub mod Expansions
+pub mod Unfit
 pub mod Got
 pub mod Traces
 pub mod Sources

@@ -1,12 +1,10 @@
--- What is said of a notation with the name of its capability before it, as in a source of terminfo.
-use Rattle.std.specs.Prelude.{ℕ, ◌==◌, Bool, true, false, List, [], ◌++◌, Option, Some, None, codes, if◌then◌else◌, option_and_then, take}
+-- A notation with the name of its capability before it, as in a source of terminfo.
+use Rattle.std.specs.Prelude.{ℕ, ◌==◌, Bool, true, false, List, ◌++◌, Option, Some, None, codes, if◌then◌else◌, is_some, option_and_then, take}
 use Rattle.std.specs.List.{position}
 use Rattle.ti_base.specs.Letters.{letter}
 use Rattle.ti_entry.specs.Finding.{standard_place}
-use Rattle.ti_line.specs.declared.request.Action.{Action}
-use Rattle.ti_line.specs.declared.request.Action.TheVariants.{Source}
 use Rattle.ti_names.specs.AllNames.{Place}
-use Rattle.ti_tool.specs.FaultLines.{shown_name}
+use Rattle.ti_tool.specs.ShownNames.{shown_name}
 use Rattle.ti_words.specs.declared.Kind.TheVariants as kinds
 
 abbrev pub is_equals : ℕ → Bool
@@ -23,18 +21,17 @@ string_name name = if is_string (standard_place name) then Some name else None
 abbrev pub pasted_name : List ℕ → Option (List ℕ)
 pasted_name text = option_and_then (λ count. string_name (take count text)) (position is_equals text)
 
--- the line after such a name
+abbrev pub has_name : List ℕ → Bool
+has_name text = is_some (pasted_name text)
+
+-- what is said after such a name
 abbrev pub pasted_rest : List ℕ
 pasted_rest = codes "=: give the string alone, without a comma at its end\n"
 
-abbrev pub name_line : Option (List ℕ) → List ℕ
-name_line None = []
-name_line (Some name) = codes "  this starts with " ++ shown_name name ++ pasted_rest
+-- what to leave out, by what is kept of the notation; of a long one that is nothing
+abbrev pub pasted_line : Option (List ℕ) → List ℕ
+pasted_line None = codes "  give the string alone, without its name and the comma at its end\n"
+pasted_line (Some name) = codes "  this starts with " ++ shown_name name ++ pasted_rest
 
-abbrev pub pasted_line : List ℕ → List ℕ
-pasted_line text = name_line (pasted_name text)
-
--- of what is kept of an input, if it is a notation
-abbrev pub pasted_in : Action → List ℕ → List ℕ
-pasted_in (Source c) kept = pasted_line kept
-pasted_in action kept = []
+abbrev pub pasted_advice : List ℕ → List ℕ
+pasted_advice kept = pasted_line (pasted_name kept)

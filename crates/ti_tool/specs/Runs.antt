@@ -14,9 +14,9 @@ use Rattle.ti_tool.specs.declared.fault.ToolFault.TheVariants as fault
 use Rattle.ti_tool.specs.declared.terminals.Terminals.{Terminals}
 use Rattle.ti_tool.specs.Explained.{Explains}
 use Rattle.ti_tool.specs.FaultLines.{fault_line, line_fault_line}
-use Rattle.ti_tool.specs.FileRuns.{Ends, HasNoName, RanFiles, RanInput}
+use Rattle.ti_tool.specs.FileRuns.{Ends, RanFiles, RanInput}
 use Rattle.ti_tool.specs.Comparisons.{RanDifference}
-use Rattle.ti_tool.specs.Streams.{KnownFiles, Stream, Streams}
+use Rattle.ti_tool.specs.Streams.{KnownFiles, Streams}
 use Rattle.ti_tool.specs.Summaries.{summary_of}
 use Rattle.ti_lint.specs.declared.lint_options.LintOptions.{LintOptions}
 
@@ -60,12 +60,6 @@ abbrev pub HasNoSummary : Terminals → List (List ℕ) → Type 0
 HasNoSummary at words =
     (command : Command) (rows : List Row) (action : Action) → Reads words command rows
     → Asks at.output command rows action → summary_for at words action ≡ None
-
--- no notation that the words ask to read has a name before it
-abbrev pub HasNoPastedName : Terminals → List (List ℕ) → Stream → Stream → Type 0
-HasNoPastedName at words left0 left1 =
-    (command : Command) (rows : List Row) (action : Action) → Reads words command rows
-    → Asks at.output command rows action → HasNoName action left0 left1
 
 -- there is no request: the result is help, or explains findings, or is nothing, with a line on the words, on the fault of the line or on memory. What a
 -- message says is `clap`'s, which states nothing of it.

@@ -7,6 +7,7 @@ use Rattle.ti_cap.specs.declared.language.CapFault.TheVariants.{TooLong}
 use Rattle.ti_cap.specs.declared.language.CapRefused.{CapRefused}
 use Rattle.ti_escape.specs.Reading.{reading}
 use Rattle.ti_escape.specs.declared.reading.NotationRefused.{NotationRefused}
+use Rattle.ti_tool.specs.Pasted.{has_name}
 use Rattle.ti_tool.specs.declared.fault.ToolFault.{ToolFault}
 use Rattle.ti_tool.specs.declared.fault.ToolFault.TheVariants as fault
 
@@ -34,6 +35,10 @@ text_of notation =
     then Err (fault.Cap too_long)
     else text_read (reading notation)
 
+-- the text of the notation in an input; one with the name of its capability before it is none
+abbrev pub text_in_source : List ℕ → Result (List ℕ) ToolFault
+text_in_source input = if has_name input then Err fault.HasName else text_of (notation_in input)
+
 -- what is due for a text, or why there is none
 abbrev pub IsDueForText : (List ℕ → Result (List ℕ) ToolFault → Type 0) → Result (List ℕ) ToolFault
     → Result (List ℕ) ToolFault → Type 0
@@ -43,4 +48,4 @@ IsDueForText due (Err e) answer = answer ≡ Err e
 -- what is due for the text whose notation is in an input
 abbrev pub IsDueForSource : (List ℕ → Result (List ℕ) ToolFault → Type 0) → List ℕ
     → Result (List ℕ) ToolFault → Type 0
-IsDueForSource due input answer = IsDueForText due (text_of (notation_in input)) answer
+IsDueForSource due input answer = IsDueForText due (text_in_source input) answer

@@ -1,5 +1,5 @@
 -- The line on how much `lint` looked at.
-use Rattle.std.specs.Prelude.{◌≡◌, ◌⊎◌, ◌+◌, ◌-◌, ◌^◌, ◌%◌, ◌&&◌, ◌==◌, ℕ, Bool, true, List, [], ◌∷◌, ◌++◌, Option, Some, None, codes, decimal, if◌then◌else◌, length, min, nat_lt}
+use Rattle.std.specs.Prelude.{◌≡◌, ◌<◌, ◌⊎◌, ◌+◌, ◌-◌, ◌^◌, ◌%◌, ◌&&◌, ◌==◌, ℕ, Bool, true, List, [], ◌∷◌, ◌++◌, Option, Some, None, codes, decimal, if◌then◌else◌, length, min, nat_lt}
 use Rattle.ti_layout.specs.Refusal.{refusal}
 use Rattle.ti_layout.specs.declared.fault.Refused.{Refused}
 use Rattle.ti_line.specs.declared.options.Document.TheVariants as documents
@@ -19,12 +19,12 @@ use Rattle.ti_words.specs.Value.{EntryValue}
 -- ---- what was looked at
 
 abbrev pub no_tally : Tally
-no_tally = record { findings = 0; entries = 0; strings = 0; tried = 0; values = 0 }
+no_tally = record { findings = 0; entries = 0; strings = 0; tried = 0; values = 0; left = 0 }
 
 -- of one entry
 abbrev pub entry_tally : ℕ → Coverage → Tally
 entry_tally count c =
-    record { findings = count; entries = 1; strings = c.strings; tried = c.tried; values = c.values }
+    record { findings = count; entries = 1; strings = c.strings; tried = c.tried; values = c.values; left = c.left }
 
 -- a sum, of which no number is greater than one of 128 bits
 abbrev pub capped_sum : ℕ → ℕ → ℕ
@@ -37,6 +37,7 @@ tally_with t one = record {
   strings = capped_sum t.strings one.strings;
   tried = capped_sum t.tried one.tried;
   values = capped_sum t.values one.values;
+  left = capped_sum t.left one.left;
 }
 
 -- of contents: those of an entry, or nothing if they are refused
@@ -69,12 +70,16 @@ counted n one many = with_commas (decimal n) ++ (if n == 1 then one else many)
 abbrev pub findings_counted : ℕ → List ℕ
 findings_counted n = if n == 0 then codes "no findings" else counted n (codes " finding") (codes " findings")
 
+-- the strings that are not looked at, if there are any
+abbrev pub left_counted : ℕ → List ℕ
+left_counted n = if n == 0 then [] else codes ", " ++ counted n (codes " not looked at") (codes " not looked at")
+
 abbrev pub summary_line : Tally → List ℕ
 summary_line t =
     findings_counted t.findings ++ codes " in " ++ counted t.entries (codes " entry: ") (codes " entries: ")
     ++ counted t.strings (codes " string looked at, ") (codes " strings looked at, ")
     ++ counted t.tried (codes " of them over ") (codes " of them over ")
-    ++ counted t.values (codes " value\n") (codes " values\n")
+    ++ counted t.values (codes " value") (codes " values") ++ left_counted t.left ++ codes "\n"
 
 -- ---- when it is written
 
@@ -84,10 +89,12 @@ summary_of true (Entry (of_entry.Lint options color)) = Some options
 summary_of true (Entry (of_entry.Json (documents.Findings options))) = Some options
 summary_of wanted action = None
 
--- after all else the line on these contents was written as a fault line is, or nothing, if memory was refused for it
+-- after all else the line on these contents was written as a fault line is, if an entry is among them; or nothing, also if memory
+-- was refused for it
 abbrev pub IsSummarized : Option LintOptions → List (List ℕ) → Streams → Streams → Type 0
 IsSummarized None contents before after = after ≡ before
 IsSummarized (Some options) contents before after =
     ((after.left ≡ before.left) × (after.held ≡ before.held)
-    × ((t : Tally) × AreTallied options no_tally contents t × Told (summary_line t) before.told after.told))
+    × ((t : Tally) × AreTallied options no_tally contents t × (0 < t.entries)
+    × Told (summary_line t) before.told after.told))
     ⊎ (after ≡ before)

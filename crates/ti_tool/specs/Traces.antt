@@ -16,6 +16,7 @@ use Rattle.ti_line.specs.declared.request.TraceOf.{TraceOf}
 use Rattle.ti_tool.specs.Expansions.{IsUnexpanded}
 use Rattle.ti_tool.specs.Got.{IsDueBy}
 use Rattle.ti_tool.specs.ItemNames.{IsItemCalled}
+use Rattle.ti_tool.specs.Unfit.{IsDueIfFit}
 use Rattle.ti_tool.specs.declared.item_name.Names.TheVariants.{All}
 use Rattle.ti_tool.specs.declared.fault.ToolFault.{ToolFault}
 use Rattle.ti_tool.specs.declared.fault.ToolFault.TheVariants as fault
@@ -50,4 +51,5 @@ IsTracedValue None t answer = answer ≡ Err fault.NoSuchName
 -- that of the capability of an entry that the name means
 abbrev pub IsTracedOf : TraceOf → EntryValue → Result (List ℕ) ToolFault → Type 0
 IsTracedOf t v answer =
-    (item : Option ItemValue) × IsItemCalled All t.name.now v item × IsTracedValue item t answer
+    (item : Option ItemValue) × IsItemCalled All t.name.now v item
+    × IsDueIfFit t.name.now t.given item (IsTracedValue item t) answer

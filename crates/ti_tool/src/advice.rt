@@ -9,6 +9,7 @@ ghost use Rattle.ti_line.specs.declared.request.Pair.{Pair};
 ghost use Rattle.ti_escape.specs.Notation.{column as the_column};
 ghost use Rattle.ti_report.specs.Blocks.{indented as the_indented};
 ghost use Rattle.ti_tool.specs.Advice.{IsAdvised, IsEntryAdvice, IsNamed, advice_if as the_advice_if, any_advice, caret_line, hints, is_other_name as the_is_other_name, name_advice as the_name_advice, most_columns, most_kept, pointed as the_pointed, read_text, refusal_advice as the_refusal_advice, text_advice as the_text_advice};
+ghost use Rattle.ti_tool.specs.Pasted.{pasted_advice as the_pasted_advice};
 ghost use Rattle.ti_tool.specs.Sentences.{most_sentence};
 ghost use Rattle.ti_tool.specs.Sources.{notation_in, text_of};
 ghost use Rattle.ti_tool.specs.WideNumbers.{IsWideAdvice, wide_advice as the_wide_advice};
@@ -18,6 +19,7 @@ use crate::fault::ToolFault;
 use crate::fault_line::{FaultLine, MOST_BYTES};
 use crate::item_name::{Names, item_called};
 use crate::notation::put_text;
+use crate::pasted::pasted_advice;
 use crate::sentence::{cap_sentence, encode_sentence, entry_sentence, notation_sentence};
 use crate::wide::{first_wide, said_of};
 use arrayvec::ArrayVec;
@@ -193,6 +195,15 @@ fn source_advice(input: &mut [u8], refused: &CapRefused) -> Advice
     }
 }
 
+/// Of a notation with a name before it, of which this is kept.
+fn source_name_advice(kept: &[u8]) -> Advice
+    ensures { result.items ≡ the_pasted_advice kept.now }
+{
+    let mut lines = ArrayVec::new();
+    let _ = lines.try_extend_from_slice(pasted_advice(kept).as_slice());
+    lines
+}
+
 /// Of a value that has no room, with its capability.
 fn found_advice(found: Option<(Subject<'_>, Item<'_>)>) -> Advice
     ensures { result.items ≡ the_wide_advice (option_map listed_value found.entry) }
@@ -250,8 +261,10 @@ fn plain_advice(front: &[u8], fault: &ToolFault) -> Advice
         ToolFault::Source(refused) => indented(notation_sentence(refused.fault)),
         ToolFault::TooMuch(_) => indented("lower --rate or --lines"),
         ToolFault::Cap(_)
+        | ToolFault::HasName
         | ToolFault::NoSuchText
         | ToolFault::NoSuchName
+        | ToolFault::OnlyNumbers(_)
         | ToolFault::TextTooLong(_)
         | ToolFault::Read
         | ToolFault::Write(_)
@@ -312,6 +325,7 @@ pub fn advice_on_source(has_advice: bool, input: &mut [u8], fault: &ToolFault) -
 {
     match fault {
         ToolFault::Cap(refused) if has_advice => source_advice(input, refused),
+        ToolFault::HasName if has_advice => source_name_advice(input),
         _ if has_advice => plain_advice(b"", fault),
         _ => ArrayVec::new(),
     }

@@ -180,9 +180,10 @@ pub(crate) fn answer_of_input<A: Allocator + Copy, R: Read>(
 ///
 /// # Errors
 ///
-/// In this order: `Read` if reading failed, or if two files are to be compared, which this call can't read, `Source` if the
-/// characters are no notation, `Entry` if the bytes are no entry, `NoSuchName` if nothing has the name that `get` was given,
-/// `NoSuchText` if the text is not there, `Cap` if it is no capability, `TextTooLong`, `TooMuch` if the padded text has more than
+/// In this order: `Read` if reading failed, or if two files are to be compared, which this call can't read, `HasName` if a
+/// name stands before the notation, `Source` if the characters are no notation, `Entry` if the bytes are no entry,
+/// `NoSuchName` if nothing has the name that `get` was given, `NoSuchText` if the text is not there, `OnlyNumbers` if a word
+/// does not fit the value, `Cap` if the text is no capability, `TextTooLong`, `TooMuch` if the padded text has more than
 /// 67108864 bytes, `Encode` if a number is above 32767 and the legacy format is requested, or else if the canonical bytes would
 /// be more than 32768, which shared texts or wider numbers can lead to, `Write`; `Memory` if a growth is refused.
 pub fn carry_out<A: Allocator + Copy, R: Read, W: Write>(

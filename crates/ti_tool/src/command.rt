@@ -25,6 +25,7 @@ use crate::command::lint::findings_of_entry;
 use crate::command::trace::{trace_of_result, trace_result};
 use crate::fault::ToolFault;
 use crate::notation::put_text;
+use crate::pasted::has_name;
 use std::alloc::Allocator;
 use ti_entry::Entry;
 use ti_expand::Value;
@@ -68,6 +69,9 @@ pub fn answer_of_source<A: Allocator + Copy>(
     ensures { let IsDue = IsDueForSource (IsOutputOf output parameters.now) input.old in
         MatchResult result (λ v. IsDue (Ok v.items)) (FailsAsDue IsDue) }
 {
+    if has_name(input) {
+        return Err(ToolFault::HasName);
+    }
     let len = put_text(input)?;
     answer_of_capability(alloc, output, parameters, &input[..len])
 }

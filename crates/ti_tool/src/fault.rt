@@ -26,12 +26,19 @@ pub enum ToolFault {
     /// The characters are no notation.
     #[error("Source {0}")]
     Source(NotationRefused),
+    /// The name of a capability and `=` stand before the notation, as in a source of terminfo.
+    #[error("HasName")]
+    HasName,
     /// The entry has no such text: it is absent or cancelled.
     #[error("NoSuchText")]
     NoSuchText,
     /// Nothing has the name that `get` was given.
     #[error("NoSuchName")]
     NoSuchName,
+    /// This parameter, counted from 1, is the first word that is no number, and no table has the name of the capability, which
+    /// takes numbers alone.
+    #[error("OnlyNumbers {0}")]
+    OnlyNumbers(u8),
     /// The text of this parameter, counted from 1, has more than 32767 bytes; it is the first such.
     #[error("TextTooLong {0}")]
     TextTooLong(u8),

@@ -4,7 +4,7 @@
 
 ghost use Rattle.std.specs.Prelude.{◌≡◌, ◌≤◌, ◌+◌, ◌++◌, codes, decimal, flat_map, length, map};
 ghost use Rattle.ti_tool.specs.Explained.{unknown_line as the_unknown_line};
-ghost use Rattle.ti_tool.specs.FaultLines.{action_line, diff_usage as the_diff_usage, entry_hint as the_entry_hint, fault_line, line_fault_line, place_line, words_line, near_part, no_name_line, no_number_line as the_no_number_line, only_numbers_line as the_only_numbers_line, shown_name as the_shown_name, surplus_line as the_surplus_line, text_named as the_text_named};
+ghost use Rattle.ti_tool.specs.FaultLines.{action_line, diff_usage as the_diff_usage, entry_hint as the_entry_hint, fault_line, line_fault_line, place_line, words_line, near_part, no_name_line, no_number_line as the_no_number_line, only_numbers_line as the_only_numbers_line, shown_name as the_shown_name, surplus_line as the_surplus_line, takes_numbers_line as the_takes_numbers_line, text_named as the_text_named};
 ghost use Rattle.ti_line.specs.declared.request.Action.TheVariants.{Entry};
 ghost use Rattle.ti_tool.specs.Near.{most_told};
 
@@ -86,7 +86,9 @@ pub fn fault_line(fault: &ToolFault) -> FaultLine
         ToolFault::Encode(unfit) => name_line(b"entry: ", unfit.word()),
         ToolFault::Cap(refused) => place_line(b"capability: ", refused.fault.word(), refused.place),
         ToolFault::Source(refused) => place_line(b"source: ", refused.fault.word(), refused.place),
+        ToolFault::HasName => place_line(b"source: ", "HasName", 0),
         ToolFault::NoSuchText | ToolFault::NoSuchName => line_of(&[b"capability: absent\n"]),
+        ToolFault::OnlyNumbers(which) => only_numbers_line(usize::from(*which)),
         ToolFault::TextTooLong(parameter) => {
             let number = u128::from(*parameter);
             number_line(b"capability: TextTooLong ", number, b"\n")
@@ -149,6 +151,21 @@ fn no_name_line(command: &[u8], name: &str, near: &[&str]) -> FaultLine
     ])
 }
 
+/// The line on a word that is no number, after the name of what takes numbers alone.
+fn takes_numbers_line(command: &[u8], name: &str, which: u8) -> FaultLine
+    requires { length command.now ≤ MOST_COMMAND_BYTES }
+    ensures { result.items ≡ command.now ++ the_shown_name name.now ++ the_takes_numbers_line which }
+{
+    let mut digits = Buffer::new();
+    line_of(&[
+        command,
+        shown_name(name).as_slice(),
+        b": takes numbers; parameter ",
+        digits.format(which).as_bytes(),
+        b": no 32-bit number; an entry is named by --entry FILE\n",
+    ])
+}
+
 /// The line on a word that no finding has.
 pub fn unknown_line(word: &str) -> FaultLine
     ensures { result.items ≡ the_unknown_line word.now }
@@ -171,12 +188,18 @@ pub fn action_line(action: &EntryAction<'_>, near: &[&str], fault: &ToolFault) -
             line_of(&[b"get: ", shown.as_slice(), b": absent\n"])
         }
         (EntryAction::Get(get), ToolFault::NoSuchName) => { no_name_line(b"get: ", get.name, near) }
+        (EntryAction::Get(get), ToolFault::OnlyNumbers(which)) => {
+            takes_numbers_line(b"get: ", get.name, *which)
+        }
         (EntryAction::Trace(of), ToolFault::NoSuchText) => {
             let shown = shown_name(of.name);
             line_of(&[b"trace: ", shown.as_slice(), b": no such text\n"])
         }
         (EntryAction::Trace(of), ToolFault::NoSuchName) => {
             no_name_line(b"trace: ", of.name, near)
+        }
+        (EntryAction::Trace(of), ToolFault::OnlyNumbers(which)) => {
+            takes_numbers_line(b"trace: ", of.name, *which)
         }
         _ => fault_line(fault),
     }

@@ -32,6 +32,7 @@ mod status;
 mod store;
 mod summary;
 mod terminals;
+mod unfit;
 mod verdict;
 mod wide;
 

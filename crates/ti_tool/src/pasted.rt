@@ -1,12 +1,10 @@
-//! The line on a notation with the name of its capability before it, as in a source of terminfo.
+//! A notation with the name of its capability before it, as in a source of terminfo.
 
 ghost use Rattle.std.specs.Prelude.{◌≡◌, ◌<◌, IfSome, length, option_map};
 ghost use Rattle.std.specs.List.{position};
-ghost use Rattle.ti_tool.specs.Pasted.{is_equals, pasted_in as the_pasted_in, pasted_line as the_pasted_line, pasted_name as the_pasted_name, pasted_rest as the_pasted_rest, string_name as the_string_name};
+ghost use Rattle.ti_tool.specs.Pasted.{has_name as the_has_name, is_equals, pasted_advice as the_pasted_advice, pasted_name as the_pasted_name, pasted_rest as the_pasted_rest, string_name as the_string_name};
 
 use crate::fault_line::{FaultLine, line_of, shown_bytes};
-use arrayvec::ArrayVec;
-use ti_line::Action;
 use ti_names::find_short_or_long;
 use ti_words::Kind;
 
@@ -38,33 +36,32 @@ fn pasted_name(text: &[u8]) -> Option<&[u8]>
     }
 }
 
-/// The line after the name.
+/// Whether a name stands before a notation.
+pub fn has_name(text: &[u8]) -> bool
+    ensures { result ≡ the_has_name text.now }
+{
+    pasted_name(text).is_some()
+}
+
+/// What is said after the name.
 fn pasted_rest() -> &'static [u8]
     ensures { result.now ≡ the_pasted_rest }
 {
     b"=: give the string alone, without a comma at its end\n"
 }
 
-/// The line on a notation that has a name before it, else nothing.
-fn pasted_line(text: &[u8]) -> FaultLine
-    ensures { result.items ≡ the_pasted_line text.now }
+/// What to leave out, by what is kept of the notation.
+pub fn pasted_advice(kept: &[u8]) -> FaultLine
+    ensures { result.items ≡ the_pasted_advice kept.now }
 {
-    match pasted_name(text) {
+    match pasted_name(kept) {
         Some(name) => line_of(&[
             b"  this starts with ",
             shown_bytes(name).as_slice(),
             pasted_rest(),
         ]),
-        None => ArrayVec::new(),
-    }
-}
-
-/// The line on what was kept of an input, if the request takes a notation.
-pub fn pasted_in(action: &Action<'_>, text: &[u8]) -> FaultLine
-    ensures { result.items ≡ the_pasted_in action.now text.now }
-{
-    match action {
-        Action::Source(_) => pasted_line(text),
-        _ => ArrayVec::new(),
+        None => {
+            line_of(&[b"  give the string alone, without its name and the comma at its end\n"])
+        }
     }
 }

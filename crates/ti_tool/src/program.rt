@@ -6,8 +6,8 @@ ghost use Rattle.ti_line.specs.Requests.{texts_of};
 ghost use Rattle.ti_line.specs.declared.request.Action.TheVariants.{Entry};
 ghost use Rattle.ti_tool.specs.Advice.{hints, most_kept};
 ghost use Rattle.ti_tool.specs.FaultLines.{AreTold, AreToldFor, IsAnswerLine};
-ghost use Rattle.ti_tool.specs.FileRuns.{HasNoName, IsToldLast, RanInput, front_of};
-ghost use Rattle.ti_tool.specs.Runs.{DidLine, DidNoLine, EndsWords, HasNoPastedName, HasNoSummary, MayHaveWritten, RanRequest, no_terminals};
+ghost use Rattle.ti_tool.specs.FileRuns.{RanInput, front_of};
+ghost use Rattle.ti_tool.specs.Runs.{DidLine, DidNoLine, EndsWords, HasNoSummary, MayHaveWritten, RanRequest, no_terminals};
 ghost use Rattle.ti_tool.specs.inner.Answered.{held_of};
 ghost use Rattle.ti_tool.specs.inner.Tallies.{HasContents};
 ghost use Rattle.ti_tool.specs.Streams.{Stream, streams, unknown_files};
@@ -25,7 +25,6 @@ use crate::fault::ToolFault;
 use crate::fault_line::{FaultLine, action_line, fault_line, line_fault_line};
 use crate::files::run_files;
 use crate::near::{NearNames, nearest_names};
-use crate::pasted::pasted_in;
 use crate::status::status;
 use crate::store::{NoStore, Store};
 use crate::summary::report_contents;
@@ -35,7 +34,6 @@ use std::alloc::{AllocError, Allocator, Global};
 use std::io::{Read, Write};
 use ti_entry::{EntryReader, read};
 use ti_line::{Action, EntryAction, Get, NoRequest, Request, TraceOf, read_line};
-use ti_pad::write_out;
 
 /// The names that are reported in place of a word: the nearest ones, also of the entry that was read. None if memory is refused.
 fn names_for<'n, A: Allocator + Copy>(alloc: A, word: &str, input: &'n [u8]) -> NearNames<'n>
@@ -110,17 +108,7 @@ fn answer_line<A: Allocator + Copy>(
     }
 }
 
-/// Reports a line after all others, if there is one.
-fn report_last<E: Write>(line: &[u8], errors: &mut E)
-    ensures silent { line.now ≡ [] → errors.new ≡ errors.old }
-    ensures told { (left held : Stream) → IsToldLast line.now
-        (streams left held (E.contents errors.old)) (streams left held (E.contents errors.new)) }
-{
-    let _ = write_out(errors, line);
-}
-
-/// Carries out a request of standard input, which no word names. A fault is reported, or what was looked at, if that is wanted,
-/// and a name before a notation.
+/// Carries out a request of standard input, which no word names. A fault is reported, or what was looked at, if that is wanted.
 fn run_input<A: Allocator + Copy, R: Read, W: Write, E: Write>(
     alloc: A,
     extras: Extras,
@@ -134,15 +122,12 @@ fn run_input<A: Allocator + Copy, R: Read, W: Write, E: Write>(
         (streams (R.remaining input.old) (W.contents output.old) (E.contents errors.old))
         (streams (R.remaining input.new) (W.contents output.new) (E.contents errors.new)) result }
     ensures known { result ≢ 2 }
-    ensures silent { extras.summary ≡ None
-        → HasNoName action.now (R.remaining input.old) (R.remaining input.new)
-        → result ≤ 1 → errors.new ≡ errors.old }
+    ensures silent { extras.summary ≡ None → result ≤ 1 → errors.new ≡ errors.old }
     ensures unwritten { MayHaveWritten result ⊎ (output.new ≡ output.old) }
 {
     let mut kept = EntryReader::new();
     let mut text = ArrayVec::new();
     let answer = answer_of_input(alloc, action, &mut kept, &mut text, input);
-    let pasted = pasted_in(action, text.as_slice());
     match answer {
         Ok(answer) => {
             let status = status(&Ok(answer.passed));
@@ -153,16 +138,13 @@ fn run_input<A: Allocator + Copy, R: Read, W: Write, E: Write>(
             };
             let status = deliver_last(alloc, extras.has_advice, ending, output, errors);
             report_contents(alloc, extras.summary, kept.bytes(), status, errors);
-            report_last(pasted.as_slice(), errors);
             status
         }
         Err(fault) => {
             let (has_advice, text) = (extras.has_advice, text.as_mut_slice());
             let line = answer_line(alloc, has_advice, action, kept.bytes(), text, &fault);
             let ending = line_alone(line.as_slice(), status(&Err(fault)));
-            let status = deliver_last(alloc, has_advice, ending, output, errors);
-            report_last(pasted.as_slice(), errors);
-            status
+            deliver_last(alloc, has_advice, ending, output, errors)
         }
     }
 }
@@ -184,9 +166,7 @@ fn run_request<S: Store, A: Allocator + Copy, R: Read, W: Write, E: Write>(
         (streams (R.remaining input.old) (W.contents output.old) (E.contents errors.old))
         (streams (R.remaining input.new) (W.contents output.new) (E.contents errors.new)) result }
     ensures known { result ≢ 2 }
-    ensures silent { extras.summary ≡ None
-        → HasNoName action.now (R.remaining input.old) (R.remaining input.new)
-        → result ≤ 1 → errors.new ≡ errors.old }
+    ensures silent { extras.summary ≡ None → result ≤ 1 → errors.new ≡ errors.old }
     ensures unwritten { texts_of files.now ≡ []
         → MayHaveWritten result ⊎ (output.new ≡ output.old) }
 {
@@ -253,11 +233,11 @@ fn run_no_request<A: Allocator + Copy, W: Write, E: Write>(
 ///
 /// | Status | When | Line on `errors` |
 /// |---|---|---|
-/// | 0 | done, or help or explanations were requested | none, but a summary of `lint` that is wanted, or a line on a notation that has a name and `=` before it |
+/// | 0 | done, or help or explanations were requested | none, but a summary of `lint` that is wanted |
 /// | 1 | `check` found a fault, `lint` something wrong, `diff` a difference, or the flag of `get` is not set | the same |
 /// | 2 | the words are no command line or no parameters, or such as do not fit the capability, or request both widths, or both forms of an output, or an entry at a terminal, or to compare no file, more than two, or standard input with itself, or to explain a word that no finding has, or in JSON | what is wrong and the usage; `parameters: more than nine`; `parameters: NAME takes N, not K`; `parameter K: bad word`; `parameter K of NAME: no 32-bit number`; `parameter K: no 32-bit number; an entry is named by --entry FILE`; `convert: both widths`; `--hex and --escape exclude each other`; `--source and --of exclude each other`; `trace: --entry without --of`; `convert: not to a terminal without --force`; `diff: one file or two` and the usage; `diff: standard input cannot be compared with itself`; `lint: WORD: no such finding`; `--json and --explain exclude each other` |
 /// | 3 | the entry is refused, or can't be encoded | `entry: WORD at PLACE`; `entry: WORD` |
-/// | 4 | the capability or its notation is refused, or it is absent, a text is too long for it, or its padding too much | `capability: WORD at PLACE`; `source: WORD at PLACE`; `capability: absent`; `get: NAME: absent`; `trace: NAME: no such text`; `get: NAME: no such capability`, and the same of `trace`; `capability: TextTooLong K`; `capability: TooMuch N` |
+/// | 4 | the capability or its notation is refused, or it is absent, takes no word, a text is too long for it, or its padding too much | `capability: WORD at PLACE`; `source: WORD at PLACE`; `capability: absent`; `get: NAME: absent`; `trace: NAME: no such text`; `get: NAME: no such capability`, `get: NAME: takes numbers; parameter K: no 32-bit number; an entry is named by --entry FILE`, and the same of `trace`; `capability: TextTooLong K`; `capability: TooMuch N` |
 /// | 5 | reading or writing failed | `input: failed`; `output: failed` |
 /// | 6 | out of memory | `memory` |
 ///
@@ -298,9 +278,8 @@ pub fn run_at<S: Store, A: Allocator + Copy, R: Read, W: Write, E: Write>(
     // If the words name no file, the writer of results is what it was after any other status than 0, 1 and 5.
     ensures unwritten { files_of (texts_of words.now) ≡ []
         → MayHaveWritten result ⊎ (output.new ≡ output.old) }
-    // Without a fault nothing is written to `errors`, but a summary, and a line on a notation with a name before it.
+    // Without a fault nothing is written to `errors`, but a summary.
     ensures silent { HasNoSummary at (texts_of words.now)
-        → HasNoPastedName at (texts_of words.now) (R.remaining input.old) (R.remaining input.new)
         → result ≤ 1 → errors.new ≡ errors.old }
 {
     match read_line(global, at.output, &*words) {
@@ -354,9 +333,8 @@ pub fn run<A: Allocator + Copy, R: Read, W: Write, E: Write>(
     // If the words name no file, the writer of results is what it was after any other status than 0, 1 and 5.
     ensures unwritten { files_of (texts_of words.now) ≡ []
         → MayHaveWritten result ⊎ (output.new ≡ output.old) }
-    // Without a fault nothing is written to `errors`, but a summary, and a line on a notation with a name before it.
+    // Without a fault nothing is written to `errors`, but a summary.
     ensures silent { HasNoSummary no_terminals (texts_of words.now)
-        → HasNoPastedName no_terminals (texts_of words.now) (R.remaining input.old) (R.remaining input.new)
         → result ≤ 1 → errors.new ≡ errors.old }
 {
     let at = Terminals::NONE;

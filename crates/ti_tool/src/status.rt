@@ -17,8 +17,10 @@ pub fn status(answer: &Result<bool, ToolFault>) -> u8
         Err(
             ToolFault::Cap(_)
             | ToolFault::Source(_)
+            | ToolFault::HasName
             | ToolFault::NoSuchText
             | ToolFault::NoSuchName
+            | ToolFault::OnlyNumbers(_)
             | ToolFault::TextTooLong(_)
             | ToolFault::TooMuch(_),
         ) => 4,

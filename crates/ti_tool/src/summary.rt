@@ -4,7 +4,7 @@ ghost use Rattle.std.specs.Prelude.{◌≡◌, ◌++◌, [], ◌∷◌, List, No
 ghost use Rattle.ti_lint.specs.declared.lint_options.LintOptions.{LintOptions};
 ghost use Rattle.ti_tool.specs.FileRuns.{Contents, looked};
 ghost use Rattle.ti_tool.specs.Streams.{Stream, streams};
-ghost use Rattle.ti_tool.specs.Summaries.{IsSummarized, IsTally, comma_before, counted as the_counted, entry_tally, findings_counted, summary_line as the_summary_line, summary_of as the_summary_of, tally_with, with_commas};
+ghost use Rattle.ti_tool.specs.Summaries.{IsSummarized, IsTally, comma_before, counted as the_counted, entry_tally, findings_counted, left_counted, summary_line as the_summary_line, summary_of as the_summary_of, tally_with, with_commas};
 ghost use Rattle.ti_tool.specs.inner.Tallies.{HasContents, IsCounted, IsLooked};
 
 use std::alloc::{AllocError, Allocator};
@@ -23,6 +23,7 @@ pub struct Tally {
     strings: u128,
     tried: u128,
     values: u128,
+    left: u128,
 }
 
 impl Tally {
@@ -33,6 +34,7 @@ impl Tally {
         strings: 0,
         tried: 0,
         values: 0,
+        left: 0,
     };
 
     /// One entry was.
@@ -45,6 +47,7 @@ impl Tally {
             strings: coverage.strings,
             tried: coverage.tried as u128,
             values: coverage.values,
+            left: coverage.left,
         }
     }
 
@@ -58,6 +61,7 @@ impl Tally {
             strings: self.strings.saturating_add(one.strings),
             tried: self.tried.saturating_add(one.tried),
             values: self.values.saturating_add(one.values),
+            left: self.left.saturating_add(one.left),
         }
     }
 }
@@ -172,6 +176,18 @@ fn push_findings<A: Allocator + Copy>(out: &mut Vec<u8, A>, count: u128) -> Resu
     }
 }
 
+/// Appends how many strings were not looked at, if there are any.
+fn push_left<A: Allocator + Copy>(out: &mut Vec<u8, A>, count: u128) -> Result<(), AllocError>
+    ensures { OnOk result (out.new.items ≡ out.old.items ++ left_counted count) }
+{
+    if count == 0 {
+        return Ok(());
+    }
+    out.extend_from_slice(b", ")?;
+    push_counted(out, count, " not looked at", " not looked at")?;
+    Ok(())
+}
+
 /// The line.
 fn summary_line<A: Allocator + Copy>(alloc: A, tally: Tally) -> Result<Vec<u8, A>, AllocError>
     ensures { IfOk result (λ line. line.items ≡ the_summary_line tally) }
@@ -187,11 +203,13 @@ fn summary_line<A: Allocator + Copy>(alloc: A, tally: Tally) -> Result<Vec<u8, A
         " strings looked at, ",
     )?;
     push_counted(&mut line, tally.tried, " of them over ", " of them over ")?;
-    push_counted(&mut line, tally.values, " value\n", " values\n")?;
+    push_counted(&mut line, tally.values, " value", " values")?;
+    push_left(&mut line, tally.left)?;
+    line.extend_from_slice(b"\n")?;
     Ok(line)
 }
 
-/// Writes the line, if a summary is wanted.
+/// Writes the line, if a summary is wanted and an entry was looked at.
 pub fn report_summary<A: Allocator + Copy, E: Write>(
     alloc: A,
     summary: Option<LintOptions>,
@@ -203,7 +221,7 @@ pub fn report_summary<A: Allocator + Copy, E: Write>(
         → IsSummarized summary contents (streams left held (E.contents errors.old))
         (streams left held (E.contents errors.new)) }
 {
-    if summary.is_none() {
+    if summary.is_none() || tally.entries == 0 {
         return;
     }
     if let Ok(line) = summary_line(alloc, tally) {

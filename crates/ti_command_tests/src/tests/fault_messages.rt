@@ -27,8 +27,10 @@ const FAULTS: &[(ToolFault, &str)] = &[
         }),
         "Cap CutShort at 2",
     ),
+    (ToolFault::HasName, "HasName"),
     (ToolFault::NoSuchText, "NoSuchText"),
     (ToolFault::NoSuchName, "NoSuchName"),
+    (ToolFault::OnlyNumbers(2), "OnlyNumbers 2"),
     (ToolFault::TextTooLong(9), "TextTooLong 9"),
     (
         ToolFault::TooMuch(6_553_434_465_000),

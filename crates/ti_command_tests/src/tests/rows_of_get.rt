@@ -144,7 +144,7 @@ ti get text#115 1 x | @SMALL => 4 err get: text#115: absent\n
 ti get #115 x x | ^Z => 2 err parameter 1 of pfkey: no 32-bit number\n
 ti get #115 1 x | @SMALL => 4 err get: #115: absent\n
 ti trace --of=#10 1 2 3 | ^Z => 2 err parameters: cup takes 2, not 3\n
-# without a count these take numbers alone; of a label of another kind or of no text nothing is known
+# without a count these take numbers alone; the label of no text is that of nothing
 ti get bel 1 red 99999999999 | @SMALL => 2 err parameter 2: no 32-bit number; an entry is named by --entry FILE\n
 ti get bel 1 s:red 9 | @SMALL => 0 out ^G
 ti get am red | @SMALL => 2 err parameter 1: no 32-bit number; an entry is named by --entry FILE\n
@@ -152,9 +152,29 @@ ti get am 5 | @SMALL => 1
 ti get cols red | @SMALL => 2 err parameter 1: no 32-bit number; an entry is named by --entry FILE\n
 ti get E3 red 99999999999 | @EXTENDED => 2 err parameter 1: no 32-bit number; an entry is named by --entry FILE\n
 ti get E3 9 | @EXTENDED => 0 out \E[3J
-ti get number#0 red | @SMALL => 0 out 80\n
 ti get #414 red | @SMALL => 4 err get: #414: absent\n
 ";
+
+/// Runs with parameters for a capability of a name that no table has: its value says after reading what it takes.
+const UNKNOWN: &str = r"
+ti get AX red | @EXTENDED => 4 err get: AX: takes numbers; parameter 1: no 32-bit number; an entry is named by --entry FILE\n
+ti get AX 5 | @EXTENDED => 0
+ti get U8 1 red | @WIDE_EXTENDED => 4 err get: U8: takes numbers; parameter 2: no 32-bit number; an entry is named by --entry FILE\n
+ti get U8 s:red | @WIDE_EXTENDED => 0 out 70000\n
+ti get number#0 red | @SMALL => 4 err get: number#0: takes numbers; parameter 1: no 32-bit number; an entry is named by --entry FILE\n
+ti trace --of AX red | @EXTENDED => 4 err trace: AX: takes numbers; parameter 1: no 32-bit number; an entry is named by --entry FILE\n
+# a string of numbers alone, one with a text, and one that is no capability
+ti get E9 9 red | ^Z^A^B\000^A\000^A\000^B\000^B\000t\000^A\000P\000\377\377\000\000^G\000^A\000\000\000^A\000^C\000^L\000^A\000\000\000\000\000^C\000%p1%d\000AX\000E9\000 => 4 err get: E9: takes numbers; parameter 2: no 32-bit number; an entry is named by --entry FILE\n
+ti get E9 9 9 | ^Z^A^B\000^A\000^A\000^B\000^B\000t\000^A\000P\000\377\377\000\000^G\000^A\000\000\000^A\000^C\000^L\000^A\000\000\000\000\000^C\000%p1%d\000AX\000E9\000 => 0 out 9
+ti trace --of E9 red | ^Z^A^B\000^A\000^A\000^B\000^B\000t\000^A\000P\000\377\377\000\000^G\000^A\000\000\000^A\000^C\000^L\000^A\000\000\000\000\000^C\000%p1%d\000AX\000E9\000 => 4 err trace: E9: takes numbers; parameter 1: no 32-bit number; an entry is named by --entry FILE\n
+ti get E9 red | ^Z^A^B\000^A\000^A\000^B\000^B\000t\000^A\000P\000\377\377\000\000^G\000^A\000\000\000^A\000^C\000^L\000^A\000\000\000\000\000^C\000%p1%s\000AX\000E9\000 => 0 out red
+ti get E9 red | ^Z^A^B\000^A\000^A\000^B\000^B\000t\000^A\000P\000\377\377\000\000^G\000^A\000\000\000^A\000^C\000^L\000^A\000\000\000\000\000^C\000%p1%y\000AX\000E9\000 => 4 err capability: UnknownEscape at 3\n
+";
+
+#[test]
+fn words_fit_the_value_of_an_unknown_name(rt: HostRuntime) {
+    check_rows(&rt, UNKNOWN, &EndOf);
+}
 
 #[test]
 fn parameters_fit_what_terminfo_gives(rt: HostRuntime) {

@@ -20,9 +20,12 @@ ti trace --source --escape | \\E\n => 0 out place^Itoken          ^Irun    ^Ista
 
 /// Notations with the name of a string before them, and such as have none.
 const PASTED: &str = r"
-ti cap --source n:4 n:9 | cup=\\E[%i%p1%d;%p2%dH, => 0 out cup=\E[5;10H, err   this starts with cup=: give the string alone, without a comma at its end\n
-ti cap --source n:4 | cursor_address=%p1%d\n => 0 out cursor_address=4 err   this starts with cursor_address=: give the string alone, without a comma at its end\n
-ti cap --source | bel=%y => 4 err capability: UnknownEscape at 4\n  bel=%y\n      \^\n  this is no escape of terminfo(5); %d prints a number, %% a percent sign\n  this starts with bel=: give the string alone, without a comma at its end\n
+ti cap --source n:4 n:9 | cup=\\E[%i%p1%d;%p2%dH, => 4 err source: HasName at 0\n  this starts with cup=: give the string alone, without a comma at its end\n
+ti trace --source n:4 | cursor_address=%p1%d\n => 4 err source: HasName at 0\n  this starts with cursor_address=: give the string alone, without a comma at its end\n
+# it comes before each other fault
+ti cap --source | bel=%y\\ => 4 err source: HasName at 0\n  this starts with bel=: give the string alone, without a comma at its end\n
+# a character in octal is of the string
+ti cap --source | cup\\075b => 0 out cup=b
 # no name, that of a number, one that no table has, and bytes as they stand
 ti cap --source | a=b => 0 out a=b
 ti cap --source | =b => 0 out =b
@@ -61,7 +64,7 @@ fn notations_are_expanded_as_their_texts(rt: HostRuntime) {
 }
 
 #[test]
-fn a_name_before_a_notation_is_reported(rt: HostRuntime) {
+fn a_name_before_a_notation_is_refused(rt: HostRuntime) {
     check_rows(&rt, PASTED, &EndOf);
 }
 

@@ -1,9 +1,9 @@
 -- How a request is answered before anything is written.
-use Rattle.std.specs.Prelude.{◌≡◌, ℕ, Bool, true, List, [], Ok, take}
+use Rattle.std.specs.Prelude.{◌≡◌, ℕ, Bool, true, List, Ok, take}
 use Rattle.std.specs.Io.KnownBytes.{Consumes}
 use Rattle.ti_entry.specs.Reading.{Reading, reading_of}
 use Rattle.ti_line.specs.declared.request.Action.{Action}
-use Rattle.ti_line.specs.declared.request.Action.TheVariants.{Entry, Source}
+use Rattle.ti_line.specs.declared.request.Action.TheVariants.{Entry}
 use Rattle.ti_tool.specs.declared.fault.ToolFault.{ToolFault}
 use Rattle.ti_tool.specs.declared.fault.ToolFault.TheVariants as fault
 use Rattle.ti_tool.specs.Advice.{kept_of}
@@ -18,16 +18,10 @@ abbrev pub held_of : Action → List ℕ → List ℕ → List ℕ
 held_of (Entry e) kept input = kept
 held_of action kept input = input
 
--- of an entry all that was read is kept, and a notation if it is short
+-- of an entry all that was read is kept
 abbrev pub Keeps : Action → List ℕ → List ℕ → Type 0
 Keeps (Entry e) kept bytes = kept ≡ bytes
-Keeps (Source c) kept bytes = kept ≡ kept_of bytes
 Keeps action kept bytes = Unit {0}
-
--- of a notation that was not read nothing is kept
-abbrev pub KeepsNone : Action → List ℕ → Type 0
-KeepsNone (Source c) kept = kept ≡ []
-KeepsNone action kept = Unit {0}
 
 -- an output is that of what was read
 abbrev pub HasOutput : Action → List ℕ → Supply → Bool → List ℕ → Type 0
@@ -45,7 +39,7 @@ IsKept action kept front bytes why = kept ≡ kept_of bytes
 abbrev pub HasFault : Action → List ℕ → List ℕ → Supply → ToolFault → Type 0
 HasFault action kept front (Contents bytes) e =
     FailsAsDue (IsAnswer action true bytes) e × IsKept action kept front bytes e
-HasFault action kept front _ e = (e ≡ fault.Read) × KeepsNone action kept
+HasFault action kept front _ e = e ≡ fault.Read
 
 -- a reader was fed all that a source lost and nothing else, and the front of it is kept
 abbrev pub FeedsFront : Stream → Stream → Reading → List ℕ → Type 0

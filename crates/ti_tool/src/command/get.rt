@@ -12,6 +12,7 @@ use crate::command::expand::{expand_and_pad, padded_output};
 use crate::fault::ToolFault;
 use crate::given_values::values_for;
 use crate::item_name::{Names, item_called};
+use crate::unfit::unfit_word;
 use itoa::Buffer;
 use std::alloc::{AllocError, Allocator};
 use ti_cap::Capability;
@@ -112,5 +113,9 @@ pub fn get_result<A: Allocator + Copy>(
         (λ a. IsGot action.now a.passed entry.now (Ok a.bytes.items))
         (FailsAsDue (IsGot action.now true entry.now)) }
 {
-    value_result(alloc, item_called(entry, action.name, Names::All), action)
+    let item = item_called(entry, action.name, Names::All);
+    match unfit_word(action.name, &action.given, item) {
+        Some(which) => Err(ToolFault::OnlyNumbers(which)),
+        None => value_result(alloc, item, action),
+    }
 }

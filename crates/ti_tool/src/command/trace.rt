@@ -11,6 +11,7 @@ use crate::command::document::as_line;
 use crate::fault::ToolFault;
 use crate::given_values::values_for;
 use crate::item_name::{Names, item_called};
+use crate::unfit::unfit_word;
 use std::alloc::Allocator;
 use ti_cap::Capability;
 use ti_entry::Entry;
@@ -130,5 +131,9 @@ pub fn trace_of_result<A: Allocator + Copy>(
         (λ v. IsTracedOf action.now entry.now (Ok v.items))
         (FailsAsDue (IsTracedOf action.now entry.now)) }
 {
-    trace_value(alloc, item_called(entry, action.name, Names::All), action)
+    let item = item_called(entry, action.name, Names::All);
+    match unfit_word(action.name, &action.given, item) {
+        Some(which) => Err(ToolFault::OnlyNumbers(which)),
+        None => trace_value(alloc, item, action),
+    }
 }

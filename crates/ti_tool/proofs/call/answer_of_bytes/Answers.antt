@@ -8,7 +8,7 @@ pub returns-in_err-read_up_to-clause-answered : goal.returns-in_err-read_up_to-c
 returns-in_err-read_up_to-clause-answered g c =
     let p = err_from_is_err_and c.from_residual.result c.from_residual.ensures.1 in
     let (bytes, took, is) = c.read_up_to.ensures.taken in
-    rw (p.1, p.2) (Unread, (bytes, took), (refl, tt))
+    rw (p.1, p.2) (Unread, (bytes, took), refl)
 
 pub returns-in_err-bytes-clause-answered : goal.returns-in_err-bytes-clause-answered
 returns-in_err-bytes-clause-answered g c =

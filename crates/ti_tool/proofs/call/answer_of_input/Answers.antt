@@ -13,4 +13,4 @@ pub returns-in-Entry-clause-answered : goal.returns-in-Entry-clause-answered
 returns-in-Entry-clause-answered g c = rw c.in-Entry.is c.answer_of_kept.ensures.answered
 
 pub returns-in-Difference-clause-answered : goal.returns-in-Difference-clause-answered
-returns-in-Difference-clause-answered g c = rw c.in-Difference.is (Unread, ([], Consumes-nil _), (refl, tt))
+returns-in-Difference-clause-answered g c = rw c.in-Difference.is (Unread, ([], Consumes-nil _), refl)

@@ -35,10 +35,10 @@ pub returns-in-Ok-clause-no_input : goal.returns-in-Ok-clause-no_input
 returns-in-Ok-clause-no_input g c = λ none. let (command, rows, reads, asks) = c.in-Ok.ensures.read in absurd (none (command, rows, reads))
 
 pub returns-in-Ok-clause-silent : goal.returns-in-Ok-clause-silent
-returns-in-Ok-clause-silent g c = λ none named.
+returns-in-Ok-clause-silent g c = λ none.
     let (command, rows, reads, asks) = c.in-Ok.ensures.read in
     let wanted = c.extras_of-extras.ensures.summary ∙ ap (λ has. summary_of (c.args.at.errors || has) c.in-Ok.request.action) asks.2 in
-    c.run_request.ensures.silent (wanted ∙ none command rows c.in-Ok.request.action reads asks.0) (named command rows c.in-Ok.request.action reads asks.0)
+    c.run_request.ensures.silent (wanted ∙ none command rows c.in-Ok.request.action reads asks.0)
 
 pub returns-in-Err-clause-read : goal.returns-in-Err-clause-read
 returns-in-Err-clause-read g c = λ command rows reads. inr (c.in-Err.why, c.in-Err.ensures.only command rows reads, refl, c.run_no_request.ensures.ends (g.R.Read.remaining c.args.input.now) (g.R.Read.remaining c.args.input.now))
