@@ -19,10 +19,10 @@ ALONE = {
     "entry_tests": ["entry_sources"],
     "draft_tests": ["entry_objects", "json"],
     "capability_tests": [],
-    "notation_tests": ["padding_memory", "padding_rows", "padding_writers", "trace", "traces", "control", "controls"],
+    "notation_tests": ["padding_memory", "padding_rows", "padding_writers", "trace", "traces", "control", "controls", "parser"],
 }
-# Else what Rust's own test does is left out of each.
-LEFT_OUT = ["tally"]
+# Else what Rust's own test does is left out of each, and what tests `ti_parser`, which nothing of the program stands on.
+LEFT_OUT = ["tally", "parser"]
 # What tests of memory that is refused take. Rust's own allocator refuses none on request, so they are not added.
 OF_MEMORY = ["LocalHeap", "Tally", "Tries", "tally_of", "GrowthsOf", "growths_of"]
 # A function, a type or what is implemented for one, at the top of a file.

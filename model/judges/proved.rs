@@ -1,15 +1,25 @@
 //! Prints what the parser of `ti_parser` hands out: for each line of hexadecimal bytes a line with a field for each reading.
 
+extern crate alloc;
+
+mod kit;
 mod made;
 
 use made::parser::{Coding, Configuration, Function, FunctionNumber, Intermediates, Reading, Within};
 use std::io::{self, BufRead, Write};
+
+impl std::fmt::Debug for made::expand::Value<'_> {
+    fn fmt(&self, f: &mut std::fmt::Formatter<'_>) -> std::fmt::Result {
+        f.write_str("Value")
+    }
+}
 
 fn number(number: &FunctionNumber) -> String {
     match number {
         FunctionNumber::Absent => String::new(),
         FunctionNumber::Known(value) => value.to_string(),
         FunctionNumber::Large => "*".into(),
+        FunctionNumber::Any => "?".into(),
     }
 }
 

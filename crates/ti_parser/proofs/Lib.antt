@@ -1,6 +1,15 @@
 pub mod BlurLemmas
+pub mod CoversLemmas
+pub mod DataLemmas
 pub mod DigitLemmas
 pub mod Examples
+pub mod FormLemmas
+pub mod KnowsLemmas
+pub mod LeadLemmas
+pub mod PathsLemmas
+pub mod PrintLemmas
 pub mod RunLemmas
+pub mod SetLemmas
 pub mod SettledLemmas
 pub mod TextLemmas
+pub mod TopsLemmas

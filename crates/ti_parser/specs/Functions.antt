@@ -7,7 +7,7 @@ use Rattle.ti_parser.specs.declared.function.Intermediates.TheVariants.{Empty, S
 use Rattle.ti_parser.specs.declared.function.FunctionKind.TheVariants.{Control, Escape}
 use Rattle.ti_parser.specs.declared.function.HandedOut.{HandedOut}
 use Rattle.ti_parser.specs.declared.number.FunctionNumber.{FunctionNumber}
-use Rattle.ti_parser.specs.declared.number.FunctionNumber.TheVariants.{Absent, Known, Large}
+use Rattle.ti_parser.specs.declared.number.FunctionNumber.TheVariants.{Absent, Known, Large, Any}
 
 -- a function of which nothing has come
 abbrev pub blank : Function
@@ -44,6 +44,7 @@ abbrev pub finished : FunctionNumber → Function → Function
 finished Absent function = if length function.numbers == 0 then function else pushed Absent function
 finished (Known value) function = pushed (Known value) function
 finished Large function = pushed Large function
+finished Any function = pushed Any function
 
 abbrev pub nothing : HandedOut
 nothing = record { ended = None; function = None }

@@ -7,7 +7,7 @@ use Rattle.ti_parser.specs.declared.character.Begun.TheVariants.{Nothing}
 use Rattle.ti_parser.specs.declared.configuration.Configuration.{Configuration}
 use Rattle.ti_parser.specs.declared.function.Function.{Function}
 use Rattle.ti_parser.specs.declared.number.FunctionNumber.{FunctionNumber}
-use Rattle.ti_parser.specs.declared.number.FunctionNumber.TheVariants.{Absent, Known, Large}
+use Rattle.ti_parser.specs.declared.number.FunctionNumber.TheVariants.{Absent, Known, Large, Any}
 use Rattle.ti_parser.specs.declared.reading.Reading.{Reading}
 use Rattle.ti_parser.specs.declared.state.State.{State}
 use Rattle.ti_parser.specs.declared.state.State.TheVariants.{Ground, AfterEscape, AfterCut, SequenceEntry, SequenceParameters, DeviceEntry, DeviceParameters, SystemNumber}
@@ -50,6 +50,7 @@ abbrev pub blurred : FunctionNumber → FunctionNumber
 blurred Absent = Absent
 blurred (Known value) = Large
 blurred Large = Large
+blurred Any = Large
 
 abbrev pub blurred_function : Function → Function
 blurred_function function = record function { numbers = map blurred function.numbers }

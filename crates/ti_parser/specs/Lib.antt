@@ -1,8 +1,12 @@
 pub mod Characters
 pub mod Classes
+pub mod Covers
 pub mod Functions
 pub mod Laws
 pub mod Machine
 pub mod Numbers
+pub mod Paths
 pub mod States
+pub mod Tops
 pub mod Transitions
+pub mod inner

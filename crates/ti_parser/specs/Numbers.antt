@@ -3,7 +3,7 @@ use Rattle.std.specs.Prelude.{ℕ, Bool, true, false, ◌+◌, ◌*◌, ◌-◌,
 use Rattle.ti_base.specs.Letters.{letter}
 use Rattle.ti_parser.specs.Characters.{is_between}
 use Rattle.ti_parser.specs.declared.number.FunctionNumber.{FunctionNumber}
-use Rattle.ti_parser.specs.declared.number.FunctionNumber.TheVariants.{Absent, Known, Large}
+use Rattle.ti_parser.specs.declared.number.FunctionNumber.TheVariants.{Absent, Known, Large, Any}
 
 -- as many numbers as are kept: the most of any terminal but those that have no limit (xterm 30, VTE 32)
 abbrev pub most_numbers : ℕ
@@ -16,6 +16,12 @@ abbrev pub with_digit : FunctionNumber → ℕ → FunctionNumber
 with_digit Absent digit = Known digit
 with_digit (Known value) digit = bounded (10 * value + digit)
 with_digit Large digit = Large
+with_digit Any digit = Any
+
+-- a number of which only whether it came is known
+abbrev pub forgotten : FunctionNumber → FunctionNumber
+forgotten Absent = Absent
+forgotten number = Any
 
 abbrev pub is_absent : FunctionNumber → Bool
 is_absent Absent = true

@@ -8,6 +8,7 @@ abbrev pub is_fresh : State → Bool
 is_fresh Ground = true
 is_fresh AfterEscape = true
 is_fresh AfterCut = true
+is_fresh SequenceIgnore = true
 is_fresh state = false
 
 -- bytes are read as those of an escape sequence, a control sequence, or the front of a device control string

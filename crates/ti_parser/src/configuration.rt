@@ -1,6 +1,8 @@
 //! The parser, byte by byte.
 
 ghost use Rattle.std.specs.Prelude.{◌≡◌, ◌<◌, ◌≤◌, ◌-◌, Some, None};
+ghost use Rattle.std.specs.Bool.{OnTrue};
+ghost use Rattle.ti_parser.specs.Covers.{CoversConfiguration};
 ghost use Rattle.ti_parser.specs.Functions.{escape, nothing, only};
 ghost use Rattle.ti_parser.specs.Numbers.{with_digit};
 ghost use Rattle.ti_parser.specs.Machine.{act, added_hex, anew, collected, complete, entered, goes_on, ground, hexed, introduced, is_ignored, is_introducer, is_swallowed, marked, moved, named, next_by_character, opened, plain, put, separated, step, system_named, taken, with_character};
@@ -8,10 +10,21 @@ ghost use Rattle.ti_parser.specs.Machine.{act, added_hex, anew, collected, compl
 use crate::character::{Begun, Symbol, decode};
 use crate::class::class_of;
 use crate::function::{Function, FunctionKind, HandedOut};
-use crate::number::{FunctionNumber, hex_value, is_absent, is_hex};
+use crate::number::{FunctionNumber, forgotten, hex_value, is_absent, is_hex};
 use crate::reading::{Reading, Within};
 use crate::state::State;
 use crate::transition::{ParserAction, transition_of};
+
+/// What is kept of the numbers of a configuration.
+#[derive(Clone, Copy)]
+pub(crate) enum Detail {
+    /// All of them.
+    Whole,
+    /// All, but of digits that came last only that they came.
+    ButLast,
+    /// Only whether they came.
+    Shape,
+}
 
 /// All that the parser remembers between two bytes.
 #[derive(Drop)]
@@ -84,6 +97,8 @@ fn next_by_character(state: State) -> State
 }
 
 impl Configuration {
+    ghost use Rattle.ti_parser.specs.declared.configuration.Configuration.{Configuration};
+
     /// The parser before any byte.
     pub fn new() -> Configuration
         ensures { result ≡ ground }
@@ -105,6 +120,37 @@ impl Configuration {
             begun: self.begun,
             underway: self.underway.duplicate(),
             number: self.number,
+        }
+    }
+
+    /// Whether it is the same configuration.
+    pub fn is_same(&self, other: &Configuration) -> bool
+        ensures { OnTrue result (self.now ≡ other.now) }
+    {
+        if self.state != other.state || self.begun != other.begun || self.number != other.number {
+            return false;
+        }
+        if !self.underway.is_same(&other.underway) {
+            return false;
+        }
+        true
+    }
+
+    /// Forgets numbers.
+    pub(crate) fn reduce(&mut self, detail: Detail)
+        ensures { (c : Configuration) → CoversConfiguration self.old c → CoversConfiguration self.new c }
+    {
+        match detail {
+            Detail::Whole => {}
+            Detail::ButLast => {
+                if self.state.takes_number() {
+                    self.number = forgotten(self.number);
+                }
+            }
+            Detail::Shape => {
+                self.number = forgotten(self.number);
+                self.underway.numbers = self.underway.numbers.forgotten();
+            }
         }
     }
 

@@ -1,6 +1,7 @@
 //! What the parser hands out.
 
 ghost use Rattle.std.specs.Prelude.{◌≡◌, Some, None};
+ghost use Rattle.std.specs.Bool.{OnTrue};
 ghost use Rattle.ti_parser.specs.Functions.{blank, control, escape, finished, nothing, only, pushed, with_intermediate};
 
 use crate::number::{FunctionNumber, FunctionNumbers, MOST_NUMBERS};
@@ -131,6 +132,25 @@ impl Function {
             asks: self.asks,
             is_overfull: self.is_overfull,
         }
+    }
+
+    /// Whether it is the same function.
+    pub fn is_same(&self, other: &Function) -> bool
+        ensures { OnTrue result (self.now ≡ other.now) }
+    {
+        if self.kind != other.kind || self.marker != other.marker {
+            return false;
+        }
+        if self.intermediates != other.intermediates || self.letter != other.letter {
+            return false;
+        }
+        if self.asks != other.asks || self.is_overfull != other.is_overfull {
+            return false;
+        }
+        if !self.numbers.is_same(&other.numbers) {
+            return false;
+        }
+        true
     }
 
     /// Forgets all.

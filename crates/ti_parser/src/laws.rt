@@ -1,5 +1,6 @@
 //! The laws of the parser, each stated as the contract of an empty function.
 
+ghost use Rattle.ti_parser.specs.Paths.{CoversExpansions};
 ghost use Rattle.ti_parser.specs.Laws.{Composes, DigitsAreANumber, EndsClean, Restarts, TextPasses, ValuesPlayNoPart};
 
 /// After an escape, what is handed out does not depend on what came before, but for whether a string was cut off.
@@ -28,4 +29,9 @@ pub fn digits_are_a_number()
 /// end there.
 pub fn text_passes()
     ensures { TextPasses }
+{}
+
+/// What covers all paths of a capability covers what it is expanded to, for any variables and parameters.
+pub fn a_cover_covers_expansions()
+    ensures { CoversExpansions }
 {}

@@ -1,7 +1,8 @@
 //! The numbers of a function.
 
-ghost use Rattle.std.specs.Prelude.{◌≡◌, ◌+◌, ◌++◌, ◌∷◌, ◌<◌, ◌≤◌, List, [], length, slice_get, nat_lt};
-ghost use Rattle.ti_parser.specs.Numbers.{bounded, hex_value, is_absent, is_hex, most_numbers, with_digit};
+ghost use Rattle.std.specs.Prelude.{◌≡◌, ◌+◌, ◌++◌, ◌∷◌, ◌<◌, ◌≤◌, List, [], length, slice_get, nat_lt, map};
+ghost use Rattle.std.specs.Bool.{OnTrue};
+ghost use Rattle.ti_parser.specs.Numbers.{bounded, forgotten, hex_value, is_absent, is_hex, most_numbers, with_digit};
 
 use std::marker::Model;
 
@@ -17,6 +18,8 @@ pub enum FunctionNumber {
     Known(u16),
     /// It is above 65535: terminals take it as a large one, or as what is left of it in so many bits.
     Large,
+    /// It came, and its value is not known. No byte leads to such a number.
+    Any,
 }
 
 impl FunctionNumber {
@@ -28,7 +31,18 @@ impl FunctionNumber {
             FunctionNumber::Absent => FunctionNumber::Known(u16::from(digit)),
             FunctionNumber::Known(value) => bounded(10 * u32::from(value) + u32::from(digit)),
             FunctionNumber::Large => FunctionNumber::Large,
+            FunctionNumber::Any => FunctionNumber::Any,
         }
+    }
+}
+
+/// A number of which only whether it came is known.
+pub(crate) fn forgotten(number: FunctionNumber) -> FunctionNumber
+    ensures { result ≡ forgotten number }
+{
+    match number {
+        FunctionNumber::Absent => FunctionNumber::Absent,
+        _ => FunctionNumber::Any,
     }
 }
 
@@ -127,6 +141,24 @@ impl FunctionNumbers {
             kept: self.kept,
             count: self.count,
         }
+    }
+
+    /// Whether they are the same.
+    pub(crate) fn is_same(&self, other: &FunctionNumbers) -> bool
+        ensures { OnTrue result (self.now ≡ other.now) }
+    {
+        self.as_slice() == other.as_slice()
+    }
+
+    /// The same numbers, of which only whether they came is known.
+    pub(crate) fn forgotten(&self) -> FunctionNumbers
+        ensures { result ≡ map forgotten self.now }
+    {
+        let mut all = FunctionNumbers::new();
+        for number in self.as_slice() {
+            all.push(forgotten(*number));
+        }
+        all
     }
 
     /// Drops all numbers.

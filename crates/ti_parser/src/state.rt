@@ -51,6 +51,7 @@ impl State {
             State::Ground => true,
             State::AfterEscape => true,
             State::AfterCut => true,
+            State::SequenceIgnore => true,
             _ => false,
         }
     }
@@ -69,6 +70,25 @@ impl State {
             State::StringBody => false,
             _ => true,
         }
+    }
+
+    /// Whether a byte of a text is no text yet, but says which string it is.
+    pub(crate) fn is_named_by_text(self) -> bool {
+        matches!(
+            self,
+            State::SystemNumber | State::Palette | State::StringStart
+        )
+    }
+
+    /// Whether a digit is one of a number.
+    pub(crate) fn takes_number(self) -> bool {
+        matches!(
+            self,
+            State::SequenceParameters
+                | State::DeviceParameters
+                | State::SystemNumber
+                | State::Palette
+        )
     }
 
     /// Whether a string is underway.

@@ -121,6 +121,7 @@ fn show_number(found: &mut Vec<u8>, number: FunctionNumber) -> Result<(), Unfoun
         FunctionNumber::Absent => Ok(()),
         FunctionNumber::Known(value) => show(found, &value),
         FunctionNumber::Large => Ok(found.push(b'*')?),
+        FunctionNumber::Any => Ok(found.push(b'?')?),
     }
 }
 

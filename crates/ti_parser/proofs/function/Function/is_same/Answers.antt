@@ -1,0 +1,7 @@
+use Rattle.std.proofs.Common.{rules}
+use Rattle.ti_parser.proofs.SetLemmas.{same_function}
+use Rattle.ti_parser.proofs.function.Function.is_same.Goals as goal
+
+pub returns : goal.returns
+returns c =
+    same_function c.args.self.now c.args.other.now (search rules) (search rules) (search rules) (search rules) (search rules) (search rules) c.if-not-is_same.ensures

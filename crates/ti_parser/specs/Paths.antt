@@ -1,0 +1,119 @@
+-- What the paths of a capability send.
+use Rattle.std.specs.Prelude.{◌≡◌, ℕ, zero, suc, ◌||◌, Bool, List, [], ◌∷◌, ℤ, reverse, if◌then◌else◌, ◌==◌, ◌&&◌, not, true, codes}
+use Rattle.std.specs.List.{AllByRecursion}
+use Rattle.ti_cap.specs.declared.language.Token.{Token}
+use Rattle.ti_cap.specs.declared.language.Token.TheVariants.{Byte, Char, Print}
+use Rattle.ti_cap.specs.declared.mode.Mode.{Mode}
+use Rattle.ti_cap.specs.declared.mode.Mode.TheVariants.{Run as RunMode, ToElse, ToEnd}
+use Rattle.ti_cap.specs.Pass.{next_mode, is_running}
+use Rattle.ti_cap.specs.Path.{IsPath}
+use Rattle.ti_cap.specs.Spelling.{Writes}
+use Rattle.ti_cap.specs.Tree.{Sequence}
+use Rattle.ti_expand.specs.Effect.{char_byte, print_for}
+use Rattle.ti_expand.specs.Meaning.{meaning}
+use Rattle.ti_expand.specs.StackHeight.{state_after}
+use Rattle.ti_expand.specs.State.{State, number_on, start}
+use Rattle.ti_expand.specs.Steps.{meet}
+use Rattle.ti_expand.specs.declared.values.Value.{Value}
+use Rattle.ti_expand.specs.declared.values.Value.TheVariants.{Num, Text}
+use Rattle.ti_base.specs.Letters.{letter}
+use Rattle.ti_parser.specs.Laws.{is_printable}
+use Rattle.ti_parser.specs.Covers.{IsRunCovered}
+use Rattle.ti_parser.specs.Machine.{ground, run}
+use Rattle.ti_parser.specs.Tops.{AreTops, no_tops}
+use Rattle.ti_parser.specs.declared.tops.Tops.{Tops}
+use Rattle.ti_parser.specs.declared.configuration.Configuration.{Configuration}
+use Rattle.ti_parser.specs.declared.function.Function.{Function}
+use Rattle.ti_parser.specs.declared.reading.Reading.{Reading}
+
+-- a new parser takes the output of a state: it ends in one of these, and hands out none but these functions
+abbrev pub IsOutputCovered : Reading → List Configuration → List Function → State → Type 0
+IsOutputCovered reading ends functions s = IsRunCovered ends functions (run reading ground s.output)
+
+-- from the space to `~`, but no `?`, which makes a string a request
+abbrev pub is_data : ℕ → Bool
+is_data byte = is_printable byte && not (byte == letter (codes "?"))
+
+-- a number, or a text of data alone
+abbrev pub IsData : Value → Type 0
+IsData (Num n) = Unit {0}
+IsData (Text text) = AllByRecursion (λ byte. is_data byte ≡ true) text.now
+
+-- so it does on each path of the capability that the bytes write, for all variables and parameters whose texts are data
+abbrev pub IsCover : Reading → List ℕ → List Configuration → List Function → Type 0
+IsCover reading bytes ends functions = (tree : Sequence) (path : List Token) → Writes tree bytes → IsPath tree path
+    → (variables : List ℤ) (parameters : List Value) → AllByRecursion IsData parameters → IsOutputCovered reading ends functions (state_after path (start variables parameters))
+
+-- what covers all paths covers each expansion, whose meaning is that of the path that the tests choose
+abbrev pub CoversExpansions : Type 0
+CoversExpansions = (reading : Reading) (bytes : List ℕ) (ends : List Configuration) (functions : List Function) → IsCover reading bytes ends functions
+    → (tree : Sequence) → Writes tree bytes → (variables : List ℤ) (parameters : List Value) → AllByRecursion IsData parameters
+    → IsOutputCovered reading ends functions (meaning tree (start variables parameters))
+
+-- ---- one pass
+
+-- what is known of the paths that come to a place: the parsers that they lead to, and numbers on top of their stacks
+pub record Point : Type 0 where
+  pub parsers : List Configuration
+  pub tops : Tops
+
+-- a place to which no path comes
+abbrev pub no_point : Point
+no_point = record { parsers = []; tops = no_tops }
+
+-- what waits in an open conditional: the paths after its failed tests, since its last `%e`, and those after its bodies
+pub record Waiting : Type 0 where
+  pub failed : Point
+  pub done : Point
+
+-- what a pass knows: the paths where it runs, what waits in the open conditionals, the innermost last, and what was sent
+pub record Known : Type 0 where
+  pub here : Point
+  pub opens : List Waiting
+  pub sent : List Function
+
+-- the paths that wait in a mode, by what waits, the innermost first
+abbrev pub waiting_in : List Waiting → Mode → Point
+waiting_in [] mode = no_point
+waiting_in (inner ∷ opens) RunMode = no_point
+waiting_in (inner ∷ opens) (ToElse zero) = inner.failed
+waiting_in (inner ∷ opens) (ToElse (suc n)) = waiting_in opens (ToElse n)
+waiting_in (inner ∷ opens) (ToEnd zero) = inner.done
+waiting_in (inner ∷ opens) (ToEnd (suc n)) = waiting_in opens (ToEnd n)
+
+-- the paths in a mode
+abbrev pub point_in : Point → List Waiting → Mode → Point
+point_in here opens RunMode = here
+point_in here opens (ToElse n) = waiting_in opens (ToElse n)
+point_in here opens (ToEnd n) = waiting_in opens (ToEnd n)
+
+-- the state is one of a point
+abbrev pub IsSeen : Reading → Point → List Function → State → Type 0
+IsSeen reading point sent s = IsOutputCovered reading point.parsers sent s × AreTops point.tops s.stack
+
+-- a path that comes to the mode with the state is known
+abbrev pub IsKnown : Reading → Known → Mode → State → Type 0
+IsKnown reading known mode s = IsSeen reading (point_in known.here (reverse known.opens) mode) known.sent s
+
+-- what a token writes
+abbrev pub written : Token → State → List ℕ
+written (Byte byte) s = byte ∷ []
+written Char s = char_byte (number_on s.stack) ∷ []
+written (Print format) s = print_for format.conversion format s.stack
+written token s = []
+
+-- the state after a token that is met in a mode, or passed over
+abbrev pub met_by : Token → Mode → Bool → State → State
+met_by token mode fails s = if is_running mode || is_running (next_mode mode token fails) then meet token s else s
+
+-- no value of a state has other texts
+pub record AreData (s : State) : Type 0 where
+  pub stack : AllByRecursion IsData s.stack
+  pub parameters : AllByRecursion IsData s.parameters
+
+-- each path that was known is known after the token, whichever way a test goes
+abbrev pub KnowsOn : Reading → Token → Known → Known → Type 0
+KnowsOn reading token old new = (mode : Mode) (s : State) (fails : Bool) → AreData s → IsKnown reading old mode s → IsKnown reading new (next_mode mode token fails) (met_by token mode fails s)
+
+abbrev pub nothing_waits : Waiting
+nothing_waits = record { failed = no_point; done = no_point }

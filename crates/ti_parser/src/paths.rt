@@ -1,0 +1,209 @@
+//! One pass over the tokens of a capability, along all its paths.
+
+ghost use Rattle.std.specs.Prelude.{◌≡◌, ◌++◌, ◌∷◌, [], IfOk, OnOk};
+ghost use Rattle.ti_cap.specs.declared.mode.Mode.{Mode};
+ghost use Rattle.ti_expand.specs.State.{State};
+ghost use Rattle.ti_parser.specs.Covers.{CoverMore};
+ghost use Rattle.ti_parser.specs.Machine.{ground};
+ghost use Rattle.ti_parser.specs.Paths.{AreData, IsCover, IsKnown, IsOutputCovered, KnowsOn, nothing_waits};
+ghost use Rattle.ti_parser.specs.Tops.{no_tops, popped};
+ghost use Rattle.ti_parser.specs.declared.paths.Outcome.TheVariants as outcome;
+ghost use Rattle.ti_parser.specs.declared.reading.Reading.{Reading};
+ghost use Rattle.ti_parser.specs.inner.Paths.{IsLeft, IsTested, IsTurned};
+
+use crate::configuration::Configuration;
+use crate::function::Function;
+use crate::parsers::Lost;
+use crate::point::{OpenPoints, Point, nowhere, pop_open, push_open, union};
+use crate::reading::Reading;
+use crate::tops::Tops;
+use crate::write::write;
+use std::alloc::{AllocError, Allocator};
+use ti_cap::{Capability, Token};
+
+/// What a pass knows.
+#[derive(Drop)]
+struct Paths<A: Allocator> {
+    /// The paths that run here.
+    here: Point<A>,
+    /// What waits in the open conditionals, the innermost last.
+    opens: Vec<OpenPoints<A>, A>,
+    /// What was handed out.
+    sent: Vec<Function, A>,
+}
+
+impl<A: Allocator + Copy> Paths<A> {
+    /// A conditional begins.
+    fn enter(&mut self, alloc: A) -> Result<(), Lost>
+        ensures opens { OnOk result (self.new.opens.items ≡ self.old.opens.items ++ nothing_waits ∷ []) }
+        ensures parsers { OnOk result (self.new.here.parsers.items ≡ self.old.here.parsers.items) }
+        ensures tops { OnOk result (self.new.here.tops ≡ self.old.here.tops) }
+        ensures sent { OnOk result (self.new.sent.items ≡ self.old.sent.items) }
+    {
+        let waiting = OpenPoints::new(nowhere(alloc), nowhere(alloc));
+        push_open(&mut self.opens, waiting)?;
+        Ok(())
+    }
+
+    /// A test ends: some paths fail here, and go on after the `%e` or `%;` to come.
+    fn test(&mut self, alloc: A) -> Result<(), Lost>
+        ensures opens { OnOk result (IsTested
+            (record { parsers = self.new.here.parsers.items; tops = self.new.here.tops })
+            self.old.opens.items self.new.opens.items) }
+        ensures parsers { OnOk result (self.new.here.parsers.items ≡ self.old.here.parsers.items) }
+        ensures tops { OnOk result (self.new.here.tops ≡ popped self.old.here.tops) }
+        ensures sent { OnOk result (self.new.sent.items ≡ self.old.sent.items) }
+    {
+        self.here.tops = self.here.tops.popped();
+        let (failed, done) = pop_open(&mut self.opens)?;
+        let failed = union(alloc, failed, &self.here)?;
+        push_open(&mut self.opens, OpenPoints::new(failed, done))?;
+        Ok(())
+    }
+
+    /// A body ends: its paths wait for the `%;`, and those of its failed test go on.
+    fn turn(&mut self, alloc: A) -> Result<(), Lost>
+        ensures opens { OnOk result (IsTurned
+            (record { parsers = self.old.here.parsers.items; tops = self.old.here.tops }) self.old.opens.items
+            (record { parsers = self.new.here.parsers.items; tops = self.new.here.tops }) self.new.opens.items) }
+        ensures sent { OnOk result (self.new.sent.items ≡ self.old.sent.items) }
+    {
+        let (failed, done) = pop_open(&mut self.opens)?;
+        let done = union(alloc, done, &self.here)?;
+        self.here = failed;
+        push_open(&mut self.opens, OpenPoints::new(nowhere(alloc), done))?;
+        Ok(())
+    }
+
+    /// A conditional ends: what waits in it joins what is here.
+    fn leave(&mut self, alloc: A) -> Result<(), Lost>
+        ensures opens { OnOk result (IsLeft
+            (record { parsers = self.old.here.parsers.items; tops = self.old.here.tops }) self.old.opens.items
+            (record { parsers = self.new.here.parsers.items; tops = self.new.here.tops }) self.new.opens.items) }
+        ensures sent { OnOk result (self.new.sent.items ≡ self.old.sent.items) }
+    {
+        let (failed, done) = pop_open(&mut self.opens)?;
+        let waited = union(alloc, failed, &done)?;
+        let all = union(alloc, waited, &self.here)?;
+        self.here = all;
+        Ok(())
+    }
+}
+
+impl<A: Allocator + Copy> Paths<A> {
+    /// Goes on over a token.
+    fn take(&mut self, alloc: A, reading: Reading, token: &Token) -> Result<(), Lost>
+        ensures { OnOk result (KnowsOn reading token.now
+            (record { here = record { parsers = self.old.here.parsers.items; tops = self.old.here.tops }; opens = self.old.opens.items; sent = self.old.sent.items })
+            (record { here = record { parsers = self.new.here.parsers.items; tops = self.new.here.tops }; opens = self.new.opens.items; sent = self.new.sent.items })) }
+    {
+        match token {
+            Token::CondOpen => {
+                self.enter(alloc)?;
+                Ok(())
+            }
+            Token::CondThen => {
+                self.test(alloc)?;
+                Ok(())
+            }
+            Token::CondElse => {
+                self.turn(alloc)?;
+                Ok(())
+            }
+            Token::CondClose => {
+                self.leave(alloc)?;
+                Ok(())
+            }
+            _ => {
+                let parsers = write(alloc, reading, &self.here, token, &mut self.sent)?;
+                self.here = Point {
+                    parsers,
+                    tops: self.here.tops.after(token),
+                };
+                Ok(())
+            }
+        }
+    }
+
+    /// Ends all conditionals that are open.
+    fn close(&mut self, alloc: A) -> Result<(), Lost>
+        ensures { OnOk result ((reading : Reading) (mode : Mode) (s : State) → AreData s → IsKnown reading
+            (record { here = record { parsers = self.old.here.parsers.items; tops = self.old.here.tops }; opens = self.old.opens.items; sent = self.old.sent.items }) mode s
+            → IsOutputCovered reading self.new.here.parsers.items self.new.sent.items s) }
+    {
+        'opens: while !self.opens.is_empty() {
+            self.leave(alloc)?;
+        }
+        Ok(())
+    }
+
+    /// Goes over all tokens of a capability.
+    fn pass(&mut self, alloc: A, reading: Reading, capability: &Capability<'_>) -> Result<(), Lost>
+        requires here { CoverMore (ground ∷ []) self.old.here.parsers.items }
+        requires tops { self.old.here.tops ≡ no_tops }
+        requires opens { self.old.opens.items ≡ [] }
+        ensures { OnOk result (IsCover reading capability.now self.new.here.parsers.items self.new.sent.items) }
+    {
+        let mut tape = capability.tape();
+        while let Some(token) = tape.token() {
+            self.take(alloc, reading, &token)?;
+        }
+        self.close(alloc)?;
+        Ok(())
+    }
+}
+
+/// How far the paths of a capability were followed.
+#[derive(Clone, Copy, Debug, PartialEq, Eq)]
+pub enum Outcome {
+    /// To their ends.
+    Whole,
+    /// Up to a byte that is computed.
+    ComputedByte,
+    /// Up to a place with too many parsers.
+    NotTried,
+}
+
+/// What the paths of a capability send.
+#[derive(Drop)]
+pub struct Sent<A: Allocator> {
+    /// The functions that a parser hands out.
+    pub functions: Vec<Function, A>,
+    /// The configurations in which it can end, if the paths were followed to their ends.
+    pub ends: Vec<Configuration, A>,
+    /// How far the paths were followed.
+    pub outcome: Outcome,
+}
+
+/// The functions that a parser hands out for what a capability writes, and the configurations in which it can end: for all
+/// parameters and variables, on all paths, unless the outcome says that they were not followed to their ends.
+pub fn functions_of<A: Allocator + Copy>(
+    alloc: A,
+    reading: Reading,
+    capability: &Capability<'_>,
+) -> Result<Sent<A>, AllocError>
+    ensures cover { IfOk result (λ sent. sent.outcome ≡ outcome.Whole
+        → IsCover reading capability.now sent.ends.items sent.functions.items) }
+{
+    let mut parsers = Vec::new(alloc);
+    parsers.push(Configuration::new())?;
+    let mut paths = Paths {
+        here: Point {
+            parsers,
+            tops: Tops::none(),
+        },
+        opens: Vec::new(alloc),
+        sent: Vec::new(alloc),
+    };
+    let outcome = match paths.pass(alloc, reading, capability) {
+        Ok(()) => Outcome::Whole,
+        Err(Lost::ComputedByte) => Outcome::ComputedByte,
+        Err(Lost::NotTried) => Outcome::NotTried,
+        Err(Lost::Memory(refused)) => return Err(refused),
+    };
+    Ok(Sent {
+        functions: paths.sent,
+        ends: paths.here.parsers,
+        outcome,
+    })
+}
