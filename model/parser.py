@@ -55,6 +55,8 @@ class Terminal:
         self.pending = b""
         self.out: list[Function] = []
         self.seen: set[str] = set()
+        # Whether some private marker came.
+        self.has_marker = False
         self.forget()
 
     def forget(self) -> None:
@@ -95,6 +97,8 @@ class Terminal:
     def byte(self, byte: int) -> None:
         if byte >= 0x80 and self.state != "ground":
             self.seen.add("eight bits within a function")
+        if byte == 0x9B and self.has_marker:
+            self.seen.add("a marker before a CSI of 8 bits")
         if self.coding == "bytes":
             if byte < 0x80:
                 self.seven(byte)
@@ -242,6 +246,7 @@ class Terminal:
     def parameter(self, byte: int) -> None:
         if byte >= 0x3C:
             self.now.marker = byte
+            self.has_marker = True
         elif byte >= 0x3A:
             self.keep_number()
         else:
