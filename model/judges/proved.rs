@@ -4,49 +4,11 @@ extern crate alloc;
 
 mod kit;
 mod made;
+mod shown;
 
-use made::parser::{Coding, Configuration, Function, FunctionNumber, Intermediates, Reading, Within};
+use made::parser::{Coding, Configuration, Reading, Within};
+use shown::shown;
 use std::io::{self, BufRead, Write};
-
-impl std::fmt::Debug for made::expand::Value<'_> {
-    fn fmt(&self, f: &mut std::fmt::Formatter<'_>) -> std::fmt::Result {
-        f.write_str("Value")
-    }
-}
-
-fn number(number: &FunctionNumber) -> String {
-    match number {
-        FunctionNumber::Absent => String::new(),
-        FunctionNumber::Known(value) => value.to_string(),
-        FunctionNumber::Large => "*".into(),
-        FunctionNumber::Any => "?".into(),
-    }
-}
-
-fn hex(byte: Option<u8>) -> String {
-    byte.map_or(String::new(), |byte| format!("{byte:02x}"))
-}
-
-fn shown(function: &Function) -> String {
-    let numbers = function.numbers.as_slice();
-    let listed: Vec<String> = numbers.iter().map(number).collect();
-    let between = match function.intermediates {
-        Intermediates::Empty => String::new(),
-        Intermediates::Single(byte) => format!("{byte:02x}"),
-        Intermediates::Pair(first, second) => format!("{first:02x}{second:02x}"),
-        Intermediates::Many => "many".into(),
-    };
-    format!(
-        "{:?}/{}/{}:{}/{between}/{}/{}{}",
-        function.kind,
-        hex(function.marker),
-        numbers.len(),
-        listed.join(";"),
-        hex(function.letter),
-        u8::from(function.asks),
-        u8::from(function.is_overfull),
-    )
-}
 
 fn functions(bytes: &[u8], reading: Reading) -> String {
     let mut parser = Configuration::new();
