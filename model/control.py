@@ -111,7 +111,9 @@ def function_at(text, place, cancelled):
             return Function(kind, found[1], place, found.end(), is_cut and found.end() == len(text), is_cut)
     if found := ESCAPE.match(text, place):
         return Function("ESC" if found[1] else "", found[1] or "", place, found.end(), needs_ecma=True)
-    return Function("", "", place, OTHER.match(text, place).end())
+    other = OTHER.match(text, place)
+    # Of bytes outside of functions an ENQ alone has an effect, by which it is called.
+    return Function("", "\x05" if other[0] == "\x05" else "", place, other.end())
 
 
 def numbers(content):
@@ -267,7 +269,8 @@ def found_in(out, name, is_ecma, after):
             if effect := misplaced(function, text, name, is_ecma, after):
                 printed = any(kind == "printed" for _, kind, _ in out[function.start:function.end])
                 content = bytes(ord(letter) & 0xFF for letter in function.content[:16])
-                label = function.label.split()[0] if function.label else ""
+                # One that lacks its final byte is called an escape.
+                label = function.label.split()[0] if function.label else "" if function.content else "ESC"
                 all_found.append(Found(effect, out[function.start][2], printed, label, content, purpose(function, effect)))
     return all_found
 
