@@ -7,6 +7,9 @@ both sides. The line `all` has the version at which all were tried, and the kit;
 
 A refusal says that the search found no proof, and a kit of another name may search further. So of the lines of other kits more are
 tried again.
+
+A refusal by rows has a line of its own, with `rows` in place of the kit. Its sum is that of the edit, of all sources that the rows run
+through, of the rows, and of what makes the crate for Rust of them.
 """
 
 from collections import Counter
@@ -18,18 +21,30 @@ from inspect import getsource
 from bodies import HERE, Edit, Function
 from checks.crates import CRATES, folder_of, words_for
 from checks.kit import kit_here
-from rests import rests_on, sum_of, whole_of
+from checks.machine import ROOT
+from judges import ROWS
+from rests import files_of, rests_on, sum_of, text_of, whole_of
 
 PATH = HERE / "record.tsv"
 ALL = "all"
 IN_PLACE = "in place"
 JUDGES = ["bodies.py", "said.py", "trial.py"]
+# The scripts that judge by rows, and what makes the crate for Rust.
+JUDGES_BY_ROWS = ["edits/bodies.py", "edits/schema.py", "edits/rows.py", "rust/make", "rust/own_tests.py", "rust/testing.rs", "rust/library/Cargo.toml"]
 
 
 @lru_cache(None)
 def judges() -> str:
     """The sum of the kit's logic, of the scripts that judge, and of how these call the prover."""
     return sum_of([kit_here().logic, *((HERE / name).read_text(encoding="utf-8") for name in JUDGES), getsource(words_for)])
+
+
+@lru_cache(None)
+def judges_by_rows() -> str:
+    """The sum of all sources, of the rows, and of what runs them."""
+    sources = [text_of(path) for crate in CRATES for path in files_of(crate, "src", "*.rt")]
+    kit = [path.read_text(encoding="utf-8") for path in sorted((ROOT / "rust/library/src").rglob("*.rs"))]
+    return sum_of([*sources, *kit, *((ROOT / name).read_text(encoding="utf-8") for name in JUDGES_BY_ROWS)])
 
 
 def version() -> str:
@@ -48,18 +63,24 @@ class Refusal:
 
 
 class Record:
-    """The lines of the record, and the version and the kit with which all edits were tried: none if that is not known."""
+    """The lines of the record, those by rows, and the version and the kit with which all edits were tried: none if that is not known."""
 
     def __init__(self) -> None:
         self.refusals: dict[str, Refusal] = {}
+        self.by_rows: dict[str, str] = {}
         self.all_tried: list[str] = []
         lines = PATH.read_text(encoding="utf-8").splitlines() if PATH.exists() else []
         rows = [line.split("\t") for line in lines]
-        counts = Counter(row[0] for row in rows)
+        counts = Counter((row[0], ROWS in row[2:]) for row in rows)
         for name, *rest in rows:
-            if counts[name] == 1 and name == ALL:
+            is_by_rows = ROWS in rest[1:]
+            if counts[name, is_by_rows] > 1:
+                continue
+            if name == ALL:
                 self.all_tried = rest
-            elif counts[name] == 1 and len(rest) > 1:
+            elif is_by_rows:
+                self.by_rows[name] = rest[0]
+            elif len(rest) > 1:
                 self.refusals[name] = Refusal(rest[0], rest[1], rest[2:] == [IN_PLACE])
 
     def holds(self, label: str, total: str) -> bool:
@@ -71,9 +92,10 @@ class Record:
             self.refusals[label] = refusal
 
     def text(self) -> str:
-        rows = [[label, one.total, one.kit, *([IN_PLACE] if one.is_in_place else [])] for label, one in sorted(self.refusals.items())]
+        rows = [[label, one.total, one.kit, *([IN_PLACE] if one.is_in_place else [])] for label, one in self.refusals.items()]
+        rows += [[label, total, ROWS] for label, total in self.by_rows.items()]
         head = [[ALL, *self.all_tried]] if self.all_tried else []
-        return "".join("\t".join(row) + "\n" for row in [*head, *rows])
+        return "".join("\t".join(row) + "\n" for row in [*head, *sorted(rows, key=lambda row: (row[0], row[2] == ROWS))])
 
     def write(self) -> bool:
         """Writes the record, and returns whether it is another now."""
@@ -88,6 +110,11 @@ def sums_of(edits: list[Edit]) -> dict[str, str]:
     return {edit.label: sum_of([judges(), rests_on(edit.crate, edit)]) for edit in edits}
 
 
+def sums_by_rows(edits: list[Edit]) -> dict[str, str]:
+    """The sum of what the verdict on each edit by rows rests on, by its name."""
+    return {edit.label: sum_of([judges_by_rows(), edit.crate, edit.text]) for edit in edits}
+
+
 @dataclass(frozen=True)
 class Draw:
     """Of so many edits whose lines hold, one is tried all the same. Those are drawn from so many crates, since a check of a crate
@@ -98,6 +125,8 @@ class Draw:
 
 
 OF_THIS_KIT, OF_OTHER_KITS = Draw(30, 2), Draw(10, 6)
+# The crate for Rust has all crates, so they may be drawn from all.
+OF_ROWS = Draw(30, len(CRATES))
 
 
 def drawn(held: list[Edit], edits: list[Edit], draw: Draw) -> list[Edit]:
@@ -147,3 +176,23 @@ def chosen(edits: list[Edit], sums: dict[str, str], record: Record, with_draw: b
     shown = {function for edit in in_copies for function in edit.functions}
     shown -= {function for edit in again for function in edit.functions}
     return Choice([*new, *always, *again], len(held), len(of_others), len(always) + len(again), shown)
+
+
+@dataclass
+class ChoiceByRows:
+    """The edits to try by rows, and what the record says: how many hold by it, and how many of these are tried again."""
+
+    tried: list[Edit]
+    held: int = 0
+    again: int = 0
+
+    def closing(self) -> str:
+        return f"; {self.held} hold by the record, {self.again} of them tried again"
+
+
+def chosen_by_rows(edits: list[Edit], sums: dict[str, str], record: Record, with_draw: bool) -> ChoiceByRows:
+    """The edits without a line by rows that holds, and with a draw those drawn from the others."""
+    held = [edit for edit in edits if record.by_rows.get(edit.label) == sums[edit.label]]
+    new = [edit for edit in edits if edit not in held]
+    again = drawn(held, edits, OF_ROWS) if with_draw else []
+    return ChoiceByRows([*new, *again], len(held), len(again))

@@ -23,6 +23,11 @@ impl<T, A: Allocator> Vec<T, A> {
     pub fn capacity(&self) -> usize {
         self.items.capacity()
     }
+
+    /// For wrong bodies.
+    pub fn remove(&mut self, place: usize) -> T {
+        self.items.remove(place)
+    }
 }
 
 #[cfg(feature = "program")]

@@ -63,12 +63,12 @@ fn words_give_parameters_to_get(rt: HostRuntime) {
     check_rows(&rt, GIVEN, &GivenToGet);
 }
 
-/// The run of `ti trace --escape` or of `ti cap n:1` with one word more.
-fn end_with(alloc: Global, is_trace: bool, word: &str, input: &[u8]) -> End {
-    let words = if is_trace {
-        ["ti", "trace", "--escape", word]
-    } else {
-        ["ti", "cap", "n:1", word]
+/// The run of `ti trace --escape`, of `ti trace --json` or of `ti cap n:1` with one word more.
+fn end_with(alloc: Global, command: &str, word: &str, input: &[u8]) -> End {
+    let words = match command {
+        "trace" => ["ti", "trace", "--escape", word],
+        "json" => ["ti", "trace", "--json", word],
+        _ => ["ti", "cap", "n:1", word],
     };
     end_of(alloc, &words, input)
 }
@@ -89,8 +89,7 @@ impl Finds for EndWithText {
     fn find(&self, given: &Given<'_, '_>, found: &mut Vec<u8>) -> Result<(), Unfound> {
         let [command, _, len, ..] = given.fields();
         let word = word_of(*found.allocator(), place_of(len)?)?;
-        let is_trace = command == "trace";
-        let end = end_with(*found.allocator(), is_trace, word.as_str(), given.second);
+        let end = end_with(*found.allocator(), command, word.as_str(), given.second);
         add_end(found, &end)
     }
 }
@@ -100,6 +99,7 @@ const LONG: &str = r"
 cap | %p1%d | 32768 => 4 err capability: TextTooLong 2\n
 trace | %p1%l%d | 32767 => 0 out place^Itoken          ^Irun    ^Istack                  ^Iwrote\n    0^I%p1            ^Iran    ^Is:aaaaaaaaaaaaaaaa,..32767^I-\n    3^I%l             ^Iran    ^I32767                  ^I-\n    5^I%d             ^Iran    ^I-                      ^I32767\noutput: 32767\nwritten: 5\nran: 3\npassed: 0\nheight: 1\ndepth: 1\nbound: 11\n
 trace | %p1%l%d | 32768 => 4 err capability: TextTooLong 1\n
+json | %p1%l%d | 32768 => 4 err capability: TextTooLong 1\n
 ";
 
 #[test]

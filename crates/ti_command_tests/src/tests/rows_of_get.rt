@@ -26,6 +26,9 @@ ti get text#1 --escape | @SMALL => 0 out \^G\n
 ti get E3 | @EXTENDED => 0 out \E[3J
 ti get cbt | @SMALL => 4 err get: cbt: absent\n
 ti get back_tab | @SMALL => 4 err get: back_tab: absent\n
+ti get colss | @SMALL => 4 err get: colss: no such capability; nearest: cols\n
+ti get xenll | @SMALL => 4 err get: xenll: no such capability; nearest: xenl\n
+ti get cbtt | @SMALL => 4 err get: cbtt: no such capability; nearest: cbt\n
 ti get text#413 | @SMALL => 4 err get: text#413: absent\n
 ti get nosuch | @SMALL => 4 err get: nosuch: no such capability\n
 # the nearest of all names, if any is near
@@ -157,6 +160,9 @@ ti get #414 red | @SMALL => 4 err get: #414: absent\n
 
 /// Runs with parameters for a capability of a name that no table has: its value says after reading what it takes.
 const UNKNOWN: &str = r"
+ti get Foo red | @SMALL => 4 err get: Foo: no such capability\n
+# another manual says that Ms takes texts
+ti get Ms red blue | ^Z^A^B\000^A\000^A\000^B\000^B\000t\000^A\000P\000\377\377\000\000^G\000\000\000\000\000^A\000^B\000^E\000\000\000\000\000a\000Ms\000 => 0 out a
 ti get AX red | @EXTENDED => 4 err get: AX: takes numbers; parameter 1: no 32-bit number; an entry is named by --entry FILE\n
 ti get AX 5 | @EXTENDED => 0
 ti get U8 1 red | @WIDE_EXTENDED => 4 err get: U8: takes numbers; parameter 2: no 32-bit number; an entry is named by --entry FILE\n

@@ -32,13 +32,15 @@ fn runs_of_show_in_other_forms_end_as_they_should(rt: HostRuntime) {
 }
 
 /// Runs with `--json`.
-const DOCUMENTS: &str = r#"
+const DOCUMENTS: &str = r##"
 ti show --json | @UNCOMMON => 0 out [{"kind":"format","value":"legacy"},{"kind":"names","value":"t"},{"kind":"flag","name":"xsb","value":true},{"hex":"07","kind":"text","name":"bel","value":"\^G"},{"hex":"1b25703125645e2c20","kind":"text","name":"cmdch","value":"\\\\E%p1%d\\\\\^\\\\,\\\\s"}]\n
 # Two texts of characters that JSON or the notation escapes, and a flag and an extended flag that the entry cancels.
 ti show --json | ^Z^A^F\000^A\000\000\000^B\000^H\000t|"\E\377\000\376\000\000\000^D\000"\\\n\000\200" \000^A\000\000\000\000\000^A\000^E\000\376\000\000\000a "\n\000 => 0 out [{"kind":"format","value":"legacy"},{"kind":"names","value":"t|\\"\\\\E\\\\377"},{"kind":"flag","name":"bw","state":"cancelled"},{"hex":"225c0a","kind":"text","name":"cbt","value":"\\"\\\\\\\\\^J"},{"hex":"802220","kind":"text","name":"bel","value":"\\\\200\\"\\\\s"},{"kind":"flag","name":"a\\\\s\\"\^J","own":true,"state":"cancelled"}]\n
+# A flag that terminfo(5) does not name.
+ti show --json | ^Z^A^B\000\055\000\000\000\000\000\000\000t\000\000\000\000\000\000\000\000\000\000\000\000\000\000\000\000\000\000\000\000\000\000\000\000\000\000\000\000\000\000\000\000\000\000\000\000\000\000\000\000\000\000\000\000\000^A\000 => 0 out [{"kind":"format","value":"legacy"},{"kind":"names","value":"t"},{"kind":"flag","name":"#44","value":true}]\n
 ti show --json --escape | @SMALL => 2 err --json excludes --escape and --all-names\n
 ti show -a --json | @SMALL => 2 err --json excludes --escape and --all-names\n
-"#;
+"##;
 
 #[test]
 fn runs_of_show_end_as_they_should_with_json(rt: HostRuntime) {

@@ -25,6 +25,9 @@ ti diff small | terminal => 1 out --- standard input\n+++ small\n- text bel \\E[
 ti diff twice once | terminal => 0
 ti diff --json small more\E | terminal => 1 out [{"first":{"state":"absent"},"kind":"flag","name":"AX","other":{"value":true},"own":true},{"first":{"state":"absent"},"kind":"text","name":"E3","other":{"hex":"1b5b334a","value":"\\\\E[3J"},"own":true}]\n
 ti diff twice once | file => 0
+# in color the first is red, and the other green
+ti diff --color=always small more\E | file => 1 out \E[32m+ flag+ AX\E[m\n\E[32m+ text+ E3 \\E[3J\E[m\n
+ti diff --color=always more\E widened | file => 1 out \E[31m- format: legacy\E[m\n\E[32m+ format: wide\E[m\n
 # the input has another text
 ti diff small | file => 1 out - text bel \\E[?%[;0123456789]c\n+ text bel \^G\n
 ti diff small - | file => 1 out - text bel \^G\n+ text bel \\E[?%[;0123456789]c\n

@@ -26,6 +26,39 @@ const DIGITS: &[u8] = b"\x1a\x01\x02\0\x01\0\x01\0\x02\0\x08\0t\0\x01\0P\0\xff\x
 /// The same by a constant between apostrophes.
 const QUOTED: &[u8] = b"\x1a\x01\x02\0\x01\0\x01\0\x02\0\x07\0t\0\x01\0P\0\xff\xff\0\0%'\n'%c\0";
 
+/// The small entry with numbers of 32 bits, and 32768 columns.
+const FAR: &[u8] = b"\x1e\x02\x02\0\x01\0\x01\0\x01\0\x02\0t\0\x01\0\0\x80\0\0\0\0\x07\0";
+
+/// The same with 80 columns, and an extended number A of 70000.
+const FAR_OWN: &[u8] =
+    b"\x1e\x02\x02\0\x01\0\x01\0\x01\0\x02\0t\0\x01\0P\0\0\0\0\0\x07\0\0\0\x01\0\0\0\x01\0\x02\0\x70\x11\x01\0\0\0A\0";
+
+/// An entry with 24 lines, 80 columns and `cup`.
+const MOVES: &[u8] =
+    b"\x1a\x01\x02\0\0\0\x03\0\x0b\0\x11\0t\0P\0\xff\xff\x18\0\xff\xff\xff\xff\xff\xff\xff\xff\xff\xff\xff\xff\xff\xff\xff\xff\xff\xff\xff\xff\0\0\x1b[%i%p1%d;%p2%dH\0";
+
+/// The same with a `cup` of which two things are wrong.
+const WRONG: &[u8] =
+    b"\x1a\x01\x02\0\0\0\x03\0\x0b\0\x09\0t\0P\0\xff\xff\x18\0\xff\xff\xff\xff\xff\xff\xff\xff\xff\xff\xff\xff\xff\xff\xff\xff\xff\xff\xff\xff\0\0\x1b[%ga%dH\0";
+
+/// The small entry with an extended text `nel` that is no capability.
+const OWN: &[u8] =
+    b"\x1a\x01\x02\0\x01\0\x01\0\x02\0\x02\0t\0\x01\0P\0\xff\xff\0\0\x07\0\0\0\0\0\x01\0\x02\0\x07\0\0\0\0\0%;\0nel\0";
+
+/// The small entry with an extended text of which nothing is known.
+const UNKNOWN: &[u8] =
+    b"\x1a\x01\x02\0\x01\0\x01\0\x02\0\x02\0t\0\x01\0P\0\xff\xff\0\0\x07\0\0\0\0\0\x01\0\x02\0\x06\0\0\0\0\0a\0xyz\0";
+
+/// An entry with 32767 columns, and a virtual terminal 40000.
+const EDGE: &[u8] =
+    b"\x1e\x02\x02\0\x01\0\x07\0\x02\0\x02\0t\0\x01\0\xff\x7f\0\0\xff\xff\xff\xff\xff\xff\xff\xff\xff\xff\xff\xff\xff\xff\xff\xff\xff\xff\xff\xff@\x9c\0\0\xff\xff\0\0\x07\0";
+
+/// An entry with the flag `mir` alone.
+const MIR: &[u8] = b"\x1a\x01\x02\0\x0e\0\0\0\0\0\0\0t\0\0\0\0\0\0\0\0\0\0\0\0\0\0\x01";
+
+/// An entry with a delay alone in `cbt`.
+const SLOW: &[u8] = b"\x1a\x01\x02\0\0\0\0\0\x01\0\x0a\0t\0\0\0$<99999*>\0";
+
 /// The files of a shelf: their names and contents.
 const SHELF: &[(&str, &[u8])] = &[
     ("small", SMALL),
@@ -41,6 +74,27 @@ const SHELF: &[(&str, &[u8])] = &[
     ("percent\x1b", PERCENT),
     ("digits", DIGITS),
     ("quoted", QUOTED),
+    ("own", OWN),
+    ("unknown", UNKNOWN),
+    ("edge", EDGE),
+    ("packed", b"\x1f\x9d\x90"),
+    ("mir", MIR),
+    ("slow", SLOW),
+    ("moves", MOVES),
+    ("wrong", WRONG),
+    (",", SMALL),
+    ("far", FAR),
+    ("far-own", FAR_OWN),
+    ("gzip", b"\x1f\x8b\x08\0"),
+    ("elf", b"\x7fELF\x02"),
+    ("html", b"<html>"),
+    ("source", b"xterm|x,"),
+    ("damaged", b"\x1a\x01\x02\0\0\0\0\0\0\0\0\0tt"),
+    ("vast", b"\x1a\x01\x02\0\0\0\0\0\0\0\xff\x7ft\0"),
+    (
+        "after",
+        b"\x1a\x01\x02\0\x01\0\x01\0\x02\0\x02\0t\0\x01\0P\0\xff\xff\0\0\x07\0\x01\0\0\0\0\0\x01\0\x02\0\x01\0\0\0A\0x",
+    ),
 ];
 
 /// Files in memory, a folder with two of them and a name that is not valid UTF-8, and an empty folder.
@@ -60,7 +114,10 @@ fn put<A: Allocator + Copy>(
 
 impl Store for Shelf {
     fn find<A: Allocator + Copy>(&self, alloc: A, name: &str) -> io::Result<Files<A>> {
-        if name == "empty" {
+        if name == "closed" {
+            return Err(io::Error::from(ErrorKind::PermissionDenied));
+        }
+        if name == "empty" || name == "-" {
             return Ok(Files {
                 found: Vec::new(alloc),
                 are_in_folder: true,
@@ -94,7 +151,7 @@ fn bytes_of(name: &str) -> io::Result<&'static [u8]> {
 }
 
 /// Words, whether results and fault lines go to a terminal or to a file, and the status with what is written.
-const ROWS: &str = r#"
+const ROWS: &str = r##"
 ti show small | file => 0 out format: legacy\nnames: t\nflag bw\nnumber cols 80\ntext bel 07\n
 # the input has another text
 ti show small - | file => 0 out file: small\nformat: legacy\nnames: t\nflag bw\nnumber cols 80\ntext bel 07\nfile: -\nformat: legacy\nnames: t\nflag bw\nnumber cols 80\ntext bel 1b5b3f255b3b303132333435363738395d63\n
@@ -108,6 +165,7 @@ ti check --entry=- | file => 1 out text bel fault UnknownEscape at 3\n
 ti show --json small | terminal => 0 out [{"kind":"format","value":"legacy"},{"kind":"names","value":"t"},{"kind":"flag","name":"bw","value":true},{"kind":"number","name":"cols","value":80},{"hex":"07","kind":"text","name":"bel","value":"\^G"}]\n
 # a file that is no entry has no document
 ti show --json more\E cut small | file => 3 out {"file":"more\\\\E","items":[{"kind":"format","value":"legacy"},{"kind":"names","value":"t"},{"kind":"flag","name":"bw","value":true},{"kind":"number","name":"cols","value":80},{"hex":"07","kind":"text","name":"bel","value":"\^G"},{"kind":"flag","name":"AX","own":true,"value":true},{"hex":"1b5b334a","kind":"text","name":"E3","own":true,"value":"\\\\E[3J"}]}\n{"file":"small","items":[{"kind":"format","value":"legacy"},{"kind":"names","value":"t"},{"kind":"flag","name":"bw","value":true},{"kind":"number","name":"cols","value":80},{"hex":"07","kind":"text","name":"bel","value":"\^G"}]}\n err cut: entry: Truncated at 5\n
+ti show --json , cut | file => 3 out {"file":"\\\\,","items":[{"kind":"format","value":"legacy"},{"kind":"names","value":"t"},{"kind":"flag","name":"bw","value":true},{"kind":"number","name":"cols","value":80},{"hex":"07","kind":"text","name":"bel","value":"\^G"}]}\n err cut: entry: Truncated at 5\n
 ti check more\E small | file => 0 out more\E: text bel ok depth 0 bound 1\nmore\E: text+ E3 ok depth 0 bound 4\nsmall: text bel ok depth 0 bound 1\n
 ti check --escape more\E small | file => 0 out more\\E: text bel ok depth 0 bound 1\nmore\\E: text+ E3 ok depth 0 bound 4\nsmall: text bel ok depth 0 bound 1\n
 ti check more\E small | terminal => 0 out more\\E: text bel ok depth 0 bound 1\nmore\\E: text+ E3 ok depth 0 bound 4\nsmall: text bel ok depth 0 bound 1\n
@@ -115,6 +173,24 @@ ti check more\E small | terminal => 0 out more\\E: text bel ok depth 0 bound 1\n
 ti show small | terminal => 0 out format: legacy\nnames: t\nflag bw\nnumber cols 80\ntext bel \^G\n
 ti show none | terminal => 5 err none: entity not found; ti takes files, such as "$(ti-path none)"\n
 ti show cut | terminal => 3 err cut: entry: Truncated at 5\n  the file ends before the entry does\n
+# an entry in place of a capability
+ti trace | terminal => 4 err capability: UnknownEscape at 25\n  \^Z\^A\^B\\000\^A\\000\^A\\000\^B\\000\^S\\000t\\000\^A\\000P\\000\\377\\377\\000\\000\\E[?%[;0123456789]c\\000\n                                                                        \^\n  this is no escape of terminfo(5); %d prints a number, %% a percent sign\n
+# of bytes that are no entry, what they are
+ti show gzip | terminal => 3 err gzip: entry: BadMagic at 0\n  this is compressed by gzip; decompress it\n
+ti show packed | terminal => 3 err packed: entry: BadMagic at 0\n  this is no compiled entry; compile a terminfo source with tic -x\n
+ti diff gzip small | terminal => 3 err gzip: entry: BadMagic at 0\n  this is compressed by gzip; decompress it\n
+ti show elf | terminal => 3 err elf: entry: BadMagic at 0\n  this is a program or a library\n
+ti show html | terminal => 3 err html: entry: BadMagic at 0\n  this is HTML or XML\n
+ti show source | terminal => 3 err source: entry: BadMagic at 0\n  this is no compiled entry; compile a terminfo source with tic -x\n
+ti show damaged | terminal => 3 err damaged: entry: BadNames at 13\n  the file is damaged; compile the source again with tic -x\n
+ti show vast | terminal => 3 err vast: entry: HeaderTooBig at 0\n  an entry has at most 32768 bytes\n
+ti show after | terminal => 3 err after: entry: Trailing at 40\n  bytes follow the end of the entry\n
+ti show - - | terminal => 3 out file: -\nformat: legacy\nnames: t\nflag bw\nnumber cols 80\ntext bel \\E[?%[;0123456789]c\n err standard input: entry: Truncated at 0\n  the file is empty\n
+# a number that has no room, by its name
+ti convert far | terminal => 2 err convert: not to a terminal without --force\n
+ti convert --force --narrow far | terminal => 3 err far: entry: NumberOutOfRange\n  cols is 32768, which is above 32767 and needs numbers of 32 bits\n
+ti convert --force --narrow far-own | terminal => 3 err far-own: entry: NumberOutOfRange\n  A is 70000, which is above 32767 and needs numbers of 32 bits\n
+ti trace --color=red | file => 2 err --color: auto, always or never\n
 ti diff cut small | terminal => 3 err cut: entry: Truncated at 5\n  the file ends before the entry does\n
 ti get bel 1 --entry - | terminal => 4 err capability: UnknownEscape at 3\n  \\E[?%[;0123456789]c\n      \^\n  this is no escape of terminfo(5); %d prints a number, %% a percent sign\n
 ti expand bel | terminal => 4 err capability: UnknownEscape at 3\n  \\E[?%[;0123456789]c\n      \^\n  this is no escape of terminfo(5); %d prints a number, %% a percent sign\n
@@ -122,11 +198,23 @@ ti trace --of bel --entry - | terminal => 4 err capability: UnknownEscape at 3\n
 ti expand nel --entry small | terminal => 4 err small: capability: absent\n  ti get takes this name; --all-names takes the short names of all strings\n
 ti expand --all-names newline --entry small | terminal => 4 err small: capability: absent\n  ti get takes this name; --all-names takes the short names of all strings\n
 ti expand cup --entry small | terminal => 4 err small: capability: absent\n
+ti expand cols --entry small | terminal => 4 err small: capability: absent\n  ti get takes this name; --all-names takes the short names of all strings\n
+ti expand #0 --rate 1000000 --lines 65535 --entry slow | terminal => 4 err slow: capability: TooMuch 6553434465000\n  lower --rate or --lines\n
+# only show, check and lint take a folder
+ti convert folder | file => 5 err folder: entity not found; ti takes files, such as "$(ti-path folder)"\n
+ti get cols --entry folder | file => 5 err folder: entity not found; ti takes files, such as "$(ti-path folder)"\n
+# without --all-names the entry's own nel is meant
+ti expand nel --entry own | terminal => 4 err own: capability: StrayEnd at 0\n  %;\n  \^\n  %; needs a %? before it\n
+ti show Zz | terminal => 5 err Zz: entity not found; ti takes files, such as "$(ti-path Zz)"\n
+ti show closed | file => 5 err closed: permission denied\n
+ti show xterm.js | terminal => 5 err xterm.js: entity not found; ti takes files, such as "$(ti-path xterm.js)"\n
+ti convert --force --narrow edge | terminal => 3 err edge: entry: NumberOutOfRange\n  vt is 40000, which is above 32767 and needs numbers of 32 bits\n
 ti check folder | file => 5 out folder/fault: text bel fault UnknownEscape at 3\nfolder/whole: text bel ok depth 0 bound 1\nfolder/whole: text+ E3 ok depth 0 bound 4\n err folder: invalid filename\n
 ti check --json folder | file => 5 out {"file":"folder/fault","verdicts":[{"fault":"UnknownEscape","kind":"text","name":"bel","place":3}]}\n{"file":"folder/whole","verdicts":[{"bound":1,"depth":0,"kind":"text","name":"bel"},{"bound":4,"depth":0,"kind":"text","name":"E3","own":true}]}\n err folder: invalid filename\n
 ti check - | file => 1 out text bel fault UnknownEscape at 3\n
 # a folder without a file is reported
 ti check empty | file => 5 err empty: no entry was read\n
+ti show empty | file => 5 err empty: no entry was read\n
 ti show --json empty | file => 5 err empty: no entry was read\n
 ti lint empty | file => 5 err empty: no entry was read\n
 ti lint --json empty cut empty | file => 5 err cut: entry: Truncated at 5\nempty: no entry was read\nempty: no entry was read\n
@@ -136,7 +224,7 @@ ti get cols --entry small | file => 0 out 80\n
 ti get cup --entry small | file => 4 err small: get: cup: absent\n
 ti trace --of cup --entry small | file => 4 err small: trace: cup: no such text\n
 ti expand bel -x --entry=small | file => 0 out 07\n
-"#;
+"##;
 
 /// Runs the program over the shelf, and a writer that fails at this write.
 fn end_at(alloc: Global, words: &[&str], at_terminal: bool, fails_at: usize) -> End {

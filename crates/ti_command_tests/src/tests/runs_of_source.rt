@@ -55,6 +55,8 @@ ti cap --source | %t => 4 err capability: StrayThen at 0\n  %t\n  \^\n  %t needs
 ti cap --source | %e => 4 err capability: StrayElse at 0\n  %e\n  \^\n  %e needs a %t before it\n
 ti cap --source | %; => 4 err capability: StrayEnd at 0\n  %;\n  \^\n  %; needs a %? before it\n
 ti cap --source | %p => 4 err capability: CutShort at 0\n  %p\n  \^\n  the string ends inside an escape; write %% for a percent sign\n
+ti cap --source | %p1%p1%p1%p1%p1%p1%p1%p1%p1%p1%p1%p1%p1%p1%p1%p1%p1%p1%p1%p1%p1%p1%p1%p1%p1%p1%p1%p1%p1%p1%p1%p1%p1 => 4 err capability: StackTooDeep at 96\n  %p1%p1%p1%p1%p1%p1%p1%p1%p1%p1%p1%p1%p1%p1%p1%p1%p1%p1%p1%p1%p1%p1%p1%p1%p1%p1%p1%p1%p1%p1%p1%p1%p1\n                                                                                                  \^\n  more than 32 values are on the stack\n
+ti cap --source | %?%p1%t%?%p1%t%?%p1%t%?%p1%t%?%p1%t%?%p1%t%?%p1%t%?%p1%t%?%p1%t%?%p1%t%?%p1%t%?%p1%t%?%p1%t%?%p1%t%?%p1%t%?%p1%t%?%p1%t%?%p1%t%?%p1%t%?%p1%t%?%p1%t%?%p1%t%?%p1%t%?%p1%t%?%p1%t%?%p1%t%?%p1%t%?%p1%t%?%p1%t%?%p1%t%?%p1%t%?%p1%t%?%p1%t => 4 err capability: NestTooDeep at 224\n  %?%p1%t%?%p1%t%?%p1%t%?%p1%t%?%p1%t%?%p1%t%?%p1%t%?%p1%t%?%p1%t%?%p1%t%?%p1%t%?%p1%t%?%p1%t%?%p1%t%?%p1%t%?%p1%t%?%p1%t%?%p1%t%?%p1%t%?%p1%t%?%p1%t%?%p1%t%?%p1%t%?%p1%t%?%p1%t%?%p1%t%?%p1%t%?%p1%t%?%p1%t%?%p1%t%?%p1%t%?%p1%t%?%p1%t\n                                                                                                                                                                                                                                  \^\n  more than 32 conditionals are open\n
 ti trace --source | %?%p1\n => 4 err capability: NoThen at 5\n  %?%p1\n       \^\n  the conditional has no %t before here\n
 ";
 

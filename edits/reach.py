@@ -1,0 +1,97 @@
+"""Which lines of functions the rows reach: a call that notes it is put at the start of each body, block and arm, and rustc compiles it."""
+
+import os
+import re
+import shutil
+import subprocess
+
+from bodies import Function, lines_of
+from mechanics import left_lines
+from rows import OUT, STAGES, build
+from schema import Crate, opening_of
+from trial import Stopped
+
+# The variable of the environment that names the file of notes.
+NOTES = "TI_REACHED"
+NOTER = """
+#[cfg(test)]
+pub mod reach {
+    //! Which places are reached.
+    use std::io::Write;
+    use std::sync::atomic::{AtomicBool, Ordering};
+
+    static REACHED: [AtomicBool; 16384] = [const { AtomicBool::new(false) }; 16384];
+
+    pub fn reached(place: usize) {
+        if !REACHED[place].swap(true, Ordering::Relaxed) {
+            let path = std::env::var("TI_REACHED").unwrap();
+            let mut file = std::fs::OpenOptions::new().append(true).create(true).open(path).unwrap();
+            file.write_all(std::format!("{place}\\n").as_bytes()).unwrap();
+        }
+    }
+}
+"""
+NOTE, NOTED = "REACHED_PLACE", "crate::kit::reach::reached"
+BLOCK = re.compile(r"(?:\b(?:if|else|for|while|loop)\b.*|=>|\|[\w, &()]*\|) \{$")
+ARM = re.compile(r"^( *)((?:[^=]|=(?!>))+?) => ([^{].*),$")
+
+
+def is_whole(text: str) -> bool:
+    """Whether each bracket of a text is closed in it."""
+    plain = re.sub(r"b?'(?:[^'\\]|\\.)'|\"(?:[^\"\\]|\\.)*\"", "", text)
+    return all(plain.count(pair[0]) == plain.count(pair[1]) for pair in ["()", "[]", "{}"])
+
+
+def noted(crate: str, function: Function, places: list[tuple[str, Function, int]]) -> dict[int, str]:
+    """The lines of a function that note a place, by their numbers. The places are added to a list."""
+    lines, left = lines_of(crate, function.file), left_lines(crate, function.file)
+    opening = opening_of(lines, function)
+    assert opening is not None
+    found: dict[int, str] = {}
+
+    def call(at: int) -> str:
+        places.append((crate, function, at))
+        return f"{NOTE}({len(places) - 1});"
+
+    found[opening] = f"{lines[opening]} {call(opening)}"
+    for at in range(opening + 1, function.last):
+        line = lines[at]
+        arm = ARM.match(line)
+        if line not in left:
+            continue
+        if BLOCK.search(line):
+            found[at] = f"{line} {call(at)}"
+        elif arm and is_whole(arm[2]) and is_whole(arm[3]):
+            found[at] = f"{arm[1]}{arm[2]} => {{ {call(at)} {arm[3]} }},"
+    return found
+
+
+def unreached(functions: list[tuple[str, Function]]) -> list[str]:
+    """The places of functions that no row reaches, each with its line."""
+    from own_tests import OF_WORDING
+
+    shutil.rmtree(OUT / "reach", ignore_errors=True)
+    crate = Crate(OUT / "reach")
+    places: list[tuple[str, Function, int]] = []
+    texts: dict[tuple[str, str], list[str]] = {}
+    for name, function in functions:
+        own = texts.setdefault((name, function.file), [*lines_of(name, function.file)])
+        for at, line in noted(name, function, places).items():
+            own[at] = line
+    with (crate.folder / "src/kit.rs").open("a") as kit:
+        kit.write(NOTER)
+    crate.write({place: "\n".join(lines) for place, lines in texts.items()})
+    for name, file in texts:
+        path = crate.path_of(name, file)
+        path.write_text(path.read_text("utf-8").replace(NOTE, NOTED), "utf-8")
+    built = build(crate.folder)
+    if not built.program:
+        raise Stopped(f"the crate with notes does not compile: {built.errors[0]}")
+    notes = OUT / "notes"
+    notes.unlink(missing_ok=True)
+    for which in STAGES:
+        words = [built.program, *which, "--skip", OF_WORDING, "-q"]
+        subprocess.run(words, env={**os.environ, NOTES: str(notes)}, stdout=subprocess.DEVNULL, check=False)
+    seen = set(map(int, notes.read_text().split())) if notes.exists() else set()
+    missed = [place for at, place in enumerate(places) if at not in seen]
+    return [f"{name}/{function.file}:{at + 1}: {function.name}: {lines_of(name, function.file)[at].strip()}" for name, function, at in missed]
