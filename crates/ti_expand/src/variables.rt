@@ -49,9 +49,9 @@ impl Vars {
         Vars { values: [0; COUNT] }
     }
 
-    /// Others with the same numbers.
+    /// A copy with the same numbers.
     #[inline(always)]
-    pub(crate) fn copy(&self) -> Vars
+    pub fn copy(&self) -> Vars
         ensures same { result ≡ self.now }
         ensures numbers { AreVariables self.now }
     {
