@@ -11,7 +11,7 @@ use Rattle.ti_lint.specs.declared.token_finding.TokenFinding.TheVariants.{StackU
 use Rattle.ti_report.specs.Explanations.{IsUnknown, explained, finding_called}
 use Rattle.ti_report.specs.Findings.{finding_word}
 use Rattle.ti_report.specs.declared.finding.Finding.{Finding}
-use Rattle.ti_report.specs.declared.finding.Finding.TheVariants.{Token, Control, Malformed, UnusedParameter, UnusedColumn, UninterpretedEscape, UninterpretedPercent, FalseMark, MarkInKey, HalfPaired, EqualPair, ToggledPair, KeyPrefix, AlikeKeys, RepeatedName, StandardName, ColorsStay, NoColors, ColorsAreFixed, Layout, Base, EmptyOutput, SameOutput, NegativeNumber, OriginDiffers, IgnoredAttribute, DifferingAttribute, Combination, ShownText, UnendedSequence, SpacedSequence, SignedSequence, UnendedText, SpacedText, SignedText, EmptyKey, LongDelay, LongDelays, Runs, Reads, Size, LoneMir, NamesControl, NamesMalformed, EmptyAlias, UnfitAlias, LongNames, OwnNameControl, RepeatedAlias, NotTried, NotAllTried, OpenLine}
+use Rattle.ti_report.specs.declared.finding.Finding.TheVariants.{Token, Control, Malformed, UnusedParameter, UnusedColumn, UninterpretedEscape, UninterpretedPercent, FalseMark, MarkInKey, HalfPaired, EqualPair, ToggledPair, KeyPrefix, AlikeKeys, RepeatedName, StandardName, ColorsStay, NoColors, ColorsAreFixed, Layout, Base, EmptyOutput, SameOutput, NegativeNumber, OriginDiffers, IgnoredAttribute, DifferingAttribute, Combination, ShownText, UnendedSequence, SpacedSequence, SignedSequence, UnendedText, SpacedText, SignedText, EmptyKey, LongDelay, LongDelays, Runs, Reads, Size, LoneMir, NamesControl, NamesMalformed, EmptyAlias, UnfitAlias, LongNames, OwnNameControl, RepeatedAlias, NotTried, NotAllTried, DividesByZero, DividesByParameter, DividesLeast, OpenLine}
 
 abbrev has : List ℕ → Finding → Bool
 has word finding = bytes_eq (finding_word finding) word
@@ -114,6 +114,9 @@ listed OwnNameControl = refl
 listed RepeatedAlias = refl
 listed NotTried = refl
 listed NotAllTried = refl
+listed DividesByZero = refl
+listed DividesByParameter = refl
+listed DividesLeast = refl
 
 pub called_unknown : (word : List ℕ) (result : Option Finding) → result ≡ finding_called word → IfNone result (IsUnknown word)
 called_unknown word (Some finding) is = tt

@@ -1,13 +1,12 @@
 -- The remarks on control functions of a capability.
 use Rattle.std.proofs.Common.{◌≡◌, ◌∙◌, ◌++◌, ℕ, Bool, true, false, List, [], ◌∷◌, ap, map, refl, subst, sym}
 use Rattle.std.specs.List.{flat_map}
-use Rattle.std.specs.Prelude.{Option}
+use Rattle.std.specs.Prelude.{Option, None}
 use Rattle.ti_control.specs.Effects.{effects}
 use Rattle.ti_control.specs.Misplaced.{Place}
 use Rattle.ti_values.specs.Controls.{Found}
 use Rattle.ti_values.specs.Idle.{IsIdle}
-use Rattle.ti_values.specs.Outputs.{AreOutputs, AreSamples, IsTriedOver, samples_of}
-use Rattle.ti_values.specs.Samples.{few_samples}
+use Rattle.ti_values.specs.Outputs.{AreOutputs, AreSamples, IsTriedOver, NamesParameter, samples_of}
 use Rattle.ti_values.proofs.IdleLemmas.{idle_arms_found, idle_outputs, none_counted}
 use Rattle.ti_values.specs.declared.range.Range.{Range}
 use Rattle.ti_values.specs.declared.samples.Sample.{Sample}
@@ -39,18 +38,26 @@ controls_are t name text capability place range samples lent outputs os plain ps
 
 -- ---- a text of which nothing is known
 
-pub unknown_are : (t : Terminal) (name text capability : List ℕ) (place : Place) (samples : List Sample) (outputs os : List (List Found)) (found fs : List Found)
-    → capability ≡ text → place ≡ place_in t name → samples ≡ few_samples → os ≡ outputs → fs ≡ found
-    → AreOutputs place capability samples outputs → AreUnknownFound t.untrusted place text found
+pub unknown_are : (t : Terminal) (name text capability : List ℕ) (place : Place) (samples lent : List Sample) (outputs os : List (List Found)) (found fs : List Found)
+    → capability ≡ text → place ≡ place_in t name → lent ≡ samples → os ≡ outputs → fs ≡ found
+    → AreSamples capability None samples → AreOutputs place capability lent outputs → AreUnknownFound t.untrusted place text found
     → AreUnknownAt t.untrusted (place_in t name) text (control_remarks name text os fs)
-unknown_are t name text capability place samples outputs os found fs same there few os_are fs_are sent are =
-    let O : List ℕ → Type 0 = λ x. AreOutputs (place_in t name) x few_samples os in
+unknown_are t name text capability place samples lent outputs os found fs same there is_lent os_are fs_are tried sent are =
+    let T : List ℕ → Type 0 = λ x. AreSamples x None samples in
+    let O : List ℕ → Type 0 = λ x. AreOutputs (place_in t name) x samples os in
     let S : List Sample → Type 0 = λ s. AreOutputs (place_in t name) capability s os in
-    let P : Place → Type 0 = λ p. AreOutputs p capability samples os in
-    let U : List (List Found) → Type 0 = λ o. AreOutputs place capability samples o in
+    let P : Place → Type 0 = λ p. AreOutputs p capability lent os in
+    let U : List (List Found) → Type 0 = λ o. AreOutputs place capability lent o in
     let F : Place → Type 0 = λ p. AreUnknownFound t.untrusted p text fs in
-    let G : List Found → Type 0 = λ f. AreUnknownFound t.untrusted place text f in
-    (os, fs, subst O same (subst S few (subst P there (subst U (sym os_are) sent))), subst F there (subst G (sym fs_are) are), refl)
+    let G : List Found → Type 0 = λ f. AreUnknownFound t.untrusted place text f in (
+      samples,
+      os,
+      fs,
+      subst T same tried,
+      subst O same (subst S is_lent (subst P there (subst U (sym os_are) sent))),
+      subst F there (subst G (sym fs_are) are),
+      refl,
+    )
 
 -- ---- a text that can send no control function with an effect
 
@@ -66,22 +73,23 @@ idle_plain : (untrusted : Bool) (place : Place) (text : List ℕ) → IsIdle tex
 idle_plain true place text idle = idle_arms_found place text idle
 idle_plain false place text idle = refl
 
-idle_at : (untrusted : Bool) (place : Place) (range over : Option Range) (text : List ℕ) → IsIdle text true → IsTriedOver text range over → AreControlsAt untrusted place range text []
-idle_at untrusted place range over text idle tried =
-    let samples : List Sample = samples_of over in (
+idle_at : (untrusted : Bool) (place : Place) (range over : Option Range) (text : List ℕ) (named : Bool) → IsIdle text true → NamesParameter text named → IsTriedOver text range over
+    → AreControlsAt untrusted place range text []
+idle_at untrusted place range over text named idle names tried =
+    let samples : List Sample = samples_of named over in (
       samples,
       map (λ sample. []) samples,
       [],
-      (over, tried, refl),
+      (named, over, names, tried, refl),
       idle_outputs place text samples idle,
       idle_plain untrusted place text idle,
       sym (no_remarks place.capability text samples),
     )
 
-pub idle_controls : (t : Terminal) (name text capability : List ℕ) (range over : Option Range) (idle : Bool) → capability ≡ text → range ≡ range_in t.rows name
-    → IsIdle capability idle → idle ≡ true → IsTriedOver capability range over → AreCapabilityControls t name text []
-idle_controls t name text capability range over idle same of_name is holds tried =
+pub idle_controls : (t : Terminal) (name text capability : List ℕ) (range over : Option Range) (named idle : Bool) → capability ≡ text → range ≡ range_in t.rows name
+    → IsIdle capability idle → idle ≡ true → NamesParameter capability named → IsTriedOver capability range over → AreCapabilityControls t name text []
+idle_controls t name text capability range over named idle same of_name is holds names tried =
     let I : Bool → Type 0 = λ b. IsIdle capability b in
     let C : List ℕ → Type 0 = λ x. AreControlsAt t.untrusted (place_in t name) (range_in t.rows name) x [] in
     let R : Option Range → Type 0 = λ r. AreControlsAt t.untrusted (place_in t name) r capability [] in
-    subst C same (subst R of_name (idle_at t.untrusted (place_in t name) range over capability (subst I holds is) tried))
+    subst C same (subst R of_name (idle_at t.untrusted (place_in t name) range over capability named (subst I holds is) names tried))

@@ -1,7 +1,7 @@
 -- How many texts at the start of a list have at most so many bytes together.
-use Rattle.std.proofs.Common.{◌≡◌, ◌∙◌, ◌≤◌, ℕ, ◌+◌, ◌-◌, suc, Bool, true, false, List, [], ◌∷◌, ap, arith, cond, length, map, nat_lt, sym, take}
-use Rattle.std.proofs.lemmas.List.{length-map, take-map}
-use Rattle.ti_report.specs.Controls.{are_left, fitting, looked_at, looked_count}
+use Rattle.std.proofs.Common.{◌≡◌, ◌∙◌, ◌≤◌, ℕ, ◌+◌, ◌-◌, suc, Bool, true, false, List, [], ◌∷◌, ap, arith, cond, drop, length, map, nat_lt, sym, take}
+use Rattle.std.proofs.lemmas.List.{drop-map, length-drop, take-map, take_all}
+use Rattle.ti_report.specs.Controls.{fitting, looked_at, looked_count}
 
 at_most : (stops : Bool) (n m : ℕ) → n ≤ m → cond stops 0 (suc n) ≤ suc m
 at_most true n m h = omega arith
@@ -31,13 +31,13 @@ fitting_end text_of room count all left is e =
     let none : fitting room (map text_of left) ≡ 0 = ap (λ l. fitting room (map text_of l)) is in
     omega (arith, none, e)
 
--- what is held of those at the start that fit, and whether others are left
+-- what is held of those at the start that fit, and of the others
 pub taken_held : {X Z : Type 0} (hold : Z → X) (text_of : X → List ℕ) (items taken : List Z) (all : List X) (end : ℕ) → map hold items ≡ all
     → end ≡ looked_count text_of (map hold items) → taken ≡ take end items → map hold taken ≡ looked_at text_of all
 taken_held hold text_of items taken all end same is cut =
     ap (map hold) cut ∙ sym (take-map hold end items) ∙ ap (λ n. take n (map hold items)) is ∙ ap (looked_at text_of) same
 
-pub left_held : {X Z : Type 0} (hold : Z → X) (text_of : X → List ℕ) (items : List Z) (all : List X) (end : ℕ) → map hold items ≡ all
-    → end ≡ looked_count text_of (map hold items) → nat_lt end (length items) ≡ are_left text_of all
-left_held hold text_of items all end same is =
-    ap (nat_lt end) (sym (length-map items hold)) ∙ ap (λ n. nat_lt n (length (map hold items))) is ∙ ap (are_left text_of) same
+pub rest_held : {X Z : Type 0} (hold : Z → X) (text_of : X → List ℕ) (items rest : List Z) (all : List X) (end : ℕ) → map hold items ≡ all
+    → end ≡ looked_count text_of (map hold items) → rest ≡ take (length items - end) (drop end items) → map hold rest ≡ drop (looked_count text_of all) all
+rest_held hold text_of items rest all end same is cut =
+    ap (map hold) (cut ∙ take_all (length items - end) (drop end items) (omega (arith, length-drop end items))) ∙ sym (drop-map hold end items) ∙ ap (λ n. drop n (map hold items)) is ∙ ap (λ l. drop (looked_count text_of l) l) same

@@ -1,5 +1,6 @@
 pub mod ConstantsLemmas
 pub mod ControlsLemmas
+pub mod CrashesLemmas
 pub mod MarkedLemmas
 pub mod PlacesLemmas
 pub mod ReportedLemmas

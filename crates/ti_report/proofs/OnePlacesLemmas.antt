@@ -30,7 +30,7 @@ one_taken token other spot next end (s, spelled, left, taken) (u, spells, rest, 
     }
 
 -- no token is taken at the end
-none_taken : (token : Token) (spot next : Spot) → spot.left ≡ [] → Takes token spot next → ⊥
+pub none_taken : (token : Token) (spot next : Spot) → spot.left ≡ [] → Takes token spot next → ⊥
 none_taken token spot next end (s, spelled, left, taken) = omega (arith, spelled_long token s spelled, ap length end, ap length left, length-append s next.left)
 
 -- ---- of tokens

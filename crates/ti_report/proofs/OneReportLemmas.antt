@@ -26,7 +26,6 @@ use Rattle.ti_control.specs.Capabilities.{is_sent}
 use Rattle.ti_control.specs.Misplaced.{Place}
 use Rattle.ti_values.specs.Controls.{Found}
 use Rattle.ti_values.specs.Outputs.{AreOutputs, plain_found}
-use Rattle.ti_values.specs.Samples.{few_samples}
 use Rattle.ti_values.proofs.OneControlsLemmas.{one_arms_found, one_outputs, one_samples}
 use Rattle.ti_values.proofs.OneSentLemmas.{one_first_of, one_first_same, one_sends, one_sent}
 use Rattle.ti_words.specs.Texts.{AbsentText, CancelledText, TextOf, TextValue}
@@ -45,6 +44,7 @@ use Rattle.ti_report.specs.NameBytes.{AreAliases, IsRepeatedReport, parted, AreN
 use Rattle.ti_report.specs.Marks.{first_place}
 use Rattle.ti_control.specs.Entries.{starts_control}
 use Rattle.ti_words.specs.Spelling.{part_names}
+use Rattle.ti_report.proofs.CrashesLemmas.{one_crashes}
 use Rattle.ti_report.proofs.NameBytesLemmas.{one_end}
 use Rattle.ti_report.specs.Names.{AreNameRemarks, IsNameReport}
 use Rattle.ti_report.specs.declared.names.NameKind.TheVariants.{Alias}
@@ -303,18 +303,22 @@ one_of_controls t name text r s (samples, outputs, plain, tried, sent, found, e)
 
 one_in_class : (sent : Bool) (t : Terminal) (class : Class) (name text : List ℕ) → IsOne (AreControlsIn sent t class name text)
 one_in_class true t classes.Plain name text = λ r s d h. d ∙ sym h
-one_in_class true t (classes.Parameterized parameters) name text = refused_or text (λ refused. plain_controls t name text) _ (one_of_controls t name text)
+one_in_class true t (classes.Parameterized parameters) name text =
+    refused_or text (λ refused. plain_controls t name text) _
+    (in_turn (AreCapabilityControls t name text) _ (one_of_controls t name text) (one_crashes (range_in t.rows name) name text))
 one_in_class true t class name text = λ r s d h. d ∙ sym h
 one_in_class false t class name text = λ r s d h. d ∙ sym h
 
 one_of_unknown : (untrusted : Bool) (place : Place) (text : List ℕ) → IsOne (AreUnknownAt untrusted place text)
-one_of_unknown untrusted place text r s (outputs, found, sent, (plain, are, is), e) (others, also, too, (again, so, same), f) =
-    let alike : outputs ≡ others = one_outputs place text few_samples outputs others sent too in
+one_of_unknown untrusted place text r s (samples, outputs, found, tried, sent, (plain, are, is), e) (few, others, also, too, go, (again, so, same), f) =
+    let alike : outputs ≡ others = one_outputs place text samples outputs others sent (subst (λ x. AreOutputs place text x others) (sym (one_samples text None samples few tried too)) go) in
     let found_alike : found ≡ also = is ∙ ap (λ p. plain_found place text ++ p) (one_plain_found untrusted place text plain again are so) ∙ sym same in
     e ∙ ap₂ (control_remarks place.capability text) alike found_alike ∙ sym f
 
 one_unknown : (t : Terminal) (u : UnknownText) → IsOne (AreUnknownControls t u)
-one_unknown t u = refused_or u.text (λ refused. plain_controls t u.name u.text) _ (one_of_unknown t.untrusted (place_in t u.name) u.text)
+one_unknown t u =
+    refused_or u.text (λ refused. plain_controls t u.name u.text) _
+    (in_turn (AreUnknownAt t.untrusted (place_in t u.name) u.text) _ (one_of_unknown t.untrusted (place_in t u.name) u.text) (one_crashes None u.name u.text))
 
 one_controls : (untrusted : Bool) (v : EntryValue) → IsOne (AreControlRemarks untrusted v)
 one_controls untrusted v =

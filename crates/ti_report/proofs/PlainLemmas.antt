@@ -19,7 +19,7 @@ use Rattle.ti_values.specs.declared.tried.Tried.{Tried}
 use Rattle.ti_values.specs.declared.tried.Tried.TheVariants.{Number, Two, Attributes}
 use Rattle.ti_report.specs.declared.finding.Finding.{Finding}
 use Rattle.ti_report.specs.Findings.{finding_remedy, finding_sentence, finding_word, token_words}
-use Rattle.ti_report.specs.Remarks.{About, OfEntry, OfName, OfText, OfTwo, Remark, Evidence, NoEvidence, Last, Value, Parameters, For, Sent, SentForTwo, Attribute, Lacking, Function}
+use Rattle.ti_report.specs.Remarks.{About, OfEntry, OfName, OfText, OfTwo, Remark, Evidence, NoEvidence, Last, Value, Parameters, For, Sent, SentForTwo, Attribute, Lacking, Function, Named}
 use Rattle.ti_report.specs.Sentences.{after, before, called_words, content_words, function_words, is_in, meaning, output_words, parameter_word, parameter_words, sent_words, value_words}
 use Rattle.ti_report.specs.Objects.{about_objects, place_number, remark_object}
 use Rattle.ti_lint.specs.declared.lint_options.LintOptions.{LintOptions}
@@ -101,6 +101,7 @@ before_text (SentForTwo one other sent) =
 before_text (Attribute name set) = value_text (Attributes set)
 before_text (Lacking name set sent text) = sent_text (Attributes set) sent
 before_text (Function name content purpose) = function_text name content purpose
+before_text (Named names) = refl
 
 after_text : (evidence : Evidence) → IsText (after evidence)
 after_text NoEvidence = refl
@@ -115,6 +116,7 @@ after_text (Lacking name set sent text) =
     let its = shown forms.Notation text in
     both (label_notation name) (codes " is " ++ its) (label name) (both (codes " is ") its refl (shown_text text))
 after_text (Function name content purpose) = refl
+after_text (Named names) = both (codes "; not at ") (shown forms.Notation names) refl (shown_text names)
 
 pub meaning_text : (finding : Finding) (evidence : Evidence) → IsText (meaning finding evidence)
 meaning_text finding evidence =

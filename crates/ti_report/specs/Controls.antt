@@ -1,5 +1,5 @@
--- Control functions that may not stand in the text that sends them.
-use Rattle.std.specs.Prelude.{◌≡◌, ◌⊎◌, ◌-◌, ℕ, suc, ◌||◌, Bool, true, false, List, [], ◌∷◌, ◌++◌, codes, length, map, nat_lt, Option, Some, None, if◌then◌else◌, take}
+-- Control functions that may not stand in the text that sends them, and divisions at which programs end.
+use Rattle.std.specs.Prelude.{◌≡◌, ◌⊎◌, ◌-◌, ℕ, suc, ◌||◌, Bool, true, false, List, [], ◌∷◌, ◌++◌, codes, drop, length, map, nat_lt, Option, Some, None, if◌then◌else◌, take}
 use Rattle.std.specs.List.{flat_map, list_any}
 use Rattle.std.specs.Str.{bytes_eq}
 use Rattle.ti_cap.specs.declared.language.CapRefused.{CapRefused}
@@ -16,7 +16,6 @@ use Rattle.ti_names.specs.declared.class.Class.{Class}
 use Rattle.ti_names.specs.declared.class.Class.TheVariants as classes
 use Rattle.ti_values.specs.Controls.{Found, counted}
 use Rattle.ti_values.specs.Outputs.{AreArmsFound, AreOutputs, AreSamples, plain_found}
-use Rattle.ti_values.specs.Samples.{few_samples}
 use Rattle.ti_values.specs.Screens.{tried_texts}
 use Rattle.ti_values.specs.declared.range.Range.{Range}
 use Rattle.ti_values.specs.declared.samples.Sample.{Sample}
@@ -24,11 +23,11 @@ use Rattle.ti_words.specs.Texts.{TextOf, TextValue}
 use Rattle.ti_words.specs.Value.{EntryValue}
 use Rattle.ti_report.specs.declared.finding.Finding.{Finding}
 use Rattle.ti_report.specs.declared.finding.Finding.TheVariants.{Control, NotAllTried, OpenLine}
+use Rattle.ti_report.specs.Crashes.{AreCrashesOf}
 use Rattle.ti_report.specs.Lines.{AreAll, InTurn}
-use Rattle.ti_report.specs.Remarks.{Function, OfText, Remark}
+use Rattle.ti_report.specs.Remarks.{Evidence, Function, Named, NoEvidence, OfEntry, OfText, Remark, unmarked}
 use Rattle.ti_report.specs.Subjects.{KnownText, UnknownText, known_texts, unknown_texts}
 use Rattle.ti_report.specs.Values.{number_named, text_named}
-use Rattle.ti_report.specs.Whole.{found_if}
 
 -- ---- the terminal
 
@@ -128,7 +127,8 @@ AreControlsIf t name text AreOfCapability remarks =
     ⊎ (IsFaultless text × AreOfCapability remarks)
 
 abbrev pub AreTriedControls : Terminal → List ℕ → List ℕ → List Remark → Type 0
-AreTriedControls t name text = AreControlsIf t name text (AreCapabilityControls t name text)
+AreTriedControls t name text =
+    AreControlsIf t name text (InTurn (AreCapabilityControls t name text) (AreCrashesOf (range_in t.rows name) name text))
 
 -- a text of a class, if it is sent
 abbrev pub AreControlsIn : Bool → Terminal → Class → List ℕ → List ℕ → List Remark → Type 0
@@ -148,11 +148,13 @@ AreUnknownFound untrusted place text found =
 
 abbrev pub AreUnknownAt : Bool → Place → List ℕ → List Remark → Type 0
 AreUnknownAt untrusted place text remarks =
-    (outputs : List (List Found)) × (found : List Found) × AreOutputs place text few_samples outputs
-    × AreUnknownFound untrusted place text found × (remarks ≡ control_remarks place.capability text outputs found)
+    (samples : List Sample) × (outputs : List (List Found)) × (found : List Found)
+    × AreSamples text None samples × AreOutputs place text samples outputs × AreUnknownFound untrusted place text found
+    × (remarks ≡ control_remarks place.capability text outputs found)
 
 abbrev pub AreUnknownControls : Terminal → UnknownText → List Remark → Type 0
-AreUnknownControls t u = AreControlsIf t u.name u.text (AreUnknownAt t.untrusted (place_in t u.name) u.text)
+AreUnknownControls t u =
+    AreControlsIf t u.name u.text (InTurn (AreUnknownAt t.untrusted (place_in t u.name) u.text) (AreCrashesOf None u.name u.text))
 
 -- ---- all texts
 
@@ -165,15 +167,18 @@ abbrev pub fitting : ℕ → List (List ℕ) → ℕ
 fitting room [] = 0
 fitting room (text ∷ texts) = if nat_lt room (length text) then 0 else suc (fitting (room - length text) texts)
 
--- how many of a list are looked at, which ones, and whether others are left
+-- how many of a list are looked at, which ones, and the names of those that are left, each after a space
 abbrev pub looked_count : {X : Type 0} → (X → List ℕ) → List X → ℕ
 looked_count text_of texts = fitting most_bytes (map text_of texts)
 
 abbrev pub looked_at : {X : Type 0} → (X → List ℕ) → List X → List X
 looked_at text_of texts = take (looked_count text_of texts) texts
 
-abbrev pub are_left : {X : Type 0} → (X → List ℕ) → List X → Bool
-are_left text_of texts = nat_lt (looked_count text_of texts) (length texts)
+abbrev pub spaced : {X : Type 0} → (X → List ℕ) → X → List ℕ
+spaced name_of text = codes " " ++ name_of text
+
+abbrev pub left_names : {X : Type 0} → (text_of name_of : X → List ℕ) → List X → List ℕ
+left_names text_of name_of texts = flat_map (spaced name_of) (drop (looked_count text_of texts) texts)
 
 abbrev pub bytes_of_known : KnownText → List ℕ
 bytes_of_known t = t.text
@@ -181,13 +186,32 @@ bytes_of_known t = t.text
 abbrev pub bytes_of_unknown : UnknownText → List ℕ
 bytes_of_unknown t = t.text
 
-abbrev pub left_remarks : EntryValue → List Remark
-left_remarks v = found_if (are_left bytes_of_known (known_texts v) || are_left bytes_of_unknown (unknown_texts v)) NotAllTried
+abbrev pub name_of_known : KnownText → List ℕ
+name_of_known t = t.name
+
+abbrev pub name_of_unknown : UnknownText → List ℕ
+name_of_unknown t = t.name
+
+abbrev pub names_left : EntryValue → List ℕ
+names_left v = left_names bytes_of_known name_of_known (known_texts v) ++ left_names bytes_of_unknown name_of_unknown (unknown_texts v)
+
+-- of the entry of a stranger they are named
+abbrev pub left_evidence : Bool → List ℕ → Evidence
+left_evidence true names = Named names
+left_evidence false names = NoEvidence
+
+-- one remark if there are names, of which the first comes after a space
+abbrev pub on_left : Bool → List ℕ → List Remark
+on_left untrusted [] = []
+on_left untrusted (space ∷ names) = unmarked OfEntry NotAllTried (left_evidence untrusted names)
+
+abbrev pub left_remarks : Bool → EntryValue → List Remark
+left_remarks untrusted v = on_left untrusted (names_left v)
 
 abbrev pub AreControlsBy : Terminal → EntryValue → List Remark → Type 0
 AreControlsBy t v =
     InTurn (AreAll (AreControlsOf t) (looked_at bytes_of_known (known_texts v)))
-    (InTurn (AreAll (AreUnknownControls t) (looked_at bytes_of_unknown (unknown_texts v))) (λ all. all ≡ left_remarks v))
+    (InTurn (AreAll (AreUnknownControls t) (looked_at bytes_of_unknown (unknown_texts v))) (λ all. all ≡ left_remarks t.untrusted v))
 
 abbrev pub AreControlRemarks : Bool → EntryValue → List Remark → Type 0
 AreControlRemarks untrusted v = AreControlsBy (terminal_of untrusted v) v

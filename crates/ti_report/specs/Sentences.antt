@@ -11,7 +11,7 @@ use Rattle.ti_values.specs.declared.tried.Tried.{Tried}
 use Rattle.ti_values.specs.declared.tried.Tried.TheVariants.{Number, Two, Attributes}
 use Rattle.ti_report.specs.declared.finding.Finding.{Finding}
 use Rattle.ti_report.specs.Findings.{finding_sentence}
-use Rattle.ti_report.specs.Remarks.{Evidence, Last, Value, Parameters, For, Sent, SentForTwo, Attribute, Lacking, Function}
+use Rattle.ti_report.specs.Remarks.{Evidence, Last, Value, Parameters, For, Sent, SentForTwo, Attribute, Lacking, Function, Named}
 
 -- bit N - 1 is for parameter N
 abbrev pub is_in : ParameterSet → ℕ → Bool
@@ -72,6 +72,7 @@ after (Value value) = signed_decimal value
 after (Parameters set) = parameter_words set 9 1
 after (Attribute name set) = label_notation name
 after (Lacking name set sent text) = label_notation name ++ (codes " is " ++ shown forms.Notation text)
+after (Named names) = codes "; not at " ++ shown forms.Notation names
 after _ = []
 
 abbrev pub meaning : Finding → Evidence → List ℕ

@@ -10,7 +10,7 @@ use ti_control::Effect;
 use ti_lint::TokenFinding;
 
 /// One finding of each word, in the order of ti-findings(7).
-static EXPLAINED: [Finding; 55] = [
+static EXPLAINED: [Finding; 56] = [
     Finding::Malformed(CapFault::UnknownEscape),
     Finding::Token(TokenFinding::StackUnderflow),
     Finding::Token(TokenFinding::TermcapParameter),
@@ -50,6 +50,7 @@ static EXPLAINED: [Finding; 55] = [
     Finding::Runs,
     Finding::Reads,
     Finding::Size,
+    Finding::DividesLeast,
     Finding::Control(Effect::Answer),
     Finding::Control(Effect::Report),
     Finding::Control(Effect::Title),

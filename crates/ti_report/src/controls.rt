@@ -7,13 +7,13 @@ ghost use Rattle.ti_control.specs.Parts.{place_at};
 ghost use Rattle.ti_values.specs.inner.Founds.{found_held, founds_held, outputs_held};
 ghost use Rattle.ti_values.specs.inner.Rows.{row_of};
 ghost use Rattle.ti_words.specs.Texts.{text_value};
-ghost use Rattle.ti_report.specs.Controls.{AreCapabilityControls, AreControlRemarks, AreControlsBy, AreControlsOf, ArePlainFound, AreTriedControls, AreUnknownAt, AreUnknownControls, AreUnknownFound, control_finding, control_remarks, has_introducer, is_ecma_entry, is_ecma_text, on_counted, place_in, plain_controls, plain_text, range_in, sent_text, terminal_of};
+ghost use Rattle.ti_report.specs.Controls.{AreCapabilityControls, AreControlRemarks, AreControlsBy, AreControlsOf, ArePlainFound, AreTriedControls, AreUnknownAt, AreUnknownControls, AreUnknownFound, control_finding, control_remarks, has_introducer, is_ecma_entry, is_ecma_text, left_evidence, on_counted, on_left, place_in, plain_controls, plain_text, range_in, sent_text, terminal_of};
 ghost use Rattle.ti_report.specs.inner.Growing.{Gains, GainsThese};
-ghost use Rattle.ti_report.specs.inner.Held.{terminal_held, text_held, texts_held, unknown_held, unknowns_held};
+ghost use Rattle.ti_report.specs.inner.Held.{evidence_held, terminal_held, text_held, texts_held, unknown_held, unknowns_held};
 ghost use Rattle.ti_report.specs.Lines.{AreAll};
 
 use crate::finding::Finding;
-use crate::looked::{are_left, known_fitting, unknown_fitting};
+use crate::looked::{known_fitting, names_of, unknown_fitting};
 use crate::lookup::{number_named, text_named};
 use crate::remark::{About, Evidence, NamedText};
 use crate::report::Report;
@@ -25,7 +25,7 @@ use ti_control::{Effect, Place, SentByte, all_effects, ecma_capabilities, is_sen
 use ti_entry::Entry;
 use ti_names::Class;
 use ti_values::{
-    FoundFunction, Range, arms_found, counted, few_samples, is_idle, outputs_for, plain_found,
+    FoundFunction, Range, arms_found, counted, is_idle, names_parameter, outputs_for, plain_found,
     plain_outputs, samples_of, tried_over, tried_texts,
 };
 use ti_words::Text;
@@ -195,6 +195,21 @@ fn unknown_found<A: Allocator + Copy>(
     Ok(found)
 }
 
+/// The names of texts that are left, if the entry comes from a stranger.
+fn left_evidence<A: Allocator>(
+    alloc: A,
+    untrusted: bool,
+    names: &[u8],
+) -> Result<Evidence<A>, AllocError>
+    ensures { IfOk result (λ evidence. evidence_held evidence ≡ left_evidence untrusted names.now) }
+{
+    if untrusted {
+        let names = names.to_vec(alloc)?;
+        return Ok(Evidence::Named(names));
+    }
+    Ok(Evidence::None)
+}
+
 impl<'r, 'a, A: Allocator + Copy> Report<'r, 'a, A> {
     /// Adds the remark on a control function, if there is one.
     fn push_function(
@@ -266,10 +281,11 @@ impl<'r, 'a, A: Allocator + Copy> Report<'r, 'a, A> {
         let alloc = self.allocator();
         let place = place_in(terminal, subject.name);
         let over = tried_over(capability, range_of(terminal, subject.name));
+        let named = names_parameter(capability);
         if is_idle(capability) {
             return Ok(());
         }
-        let samples = samples_of(alloc, over)?;
+        let samples = samples_of(alloc, named, over)?;
         let outputs = outputs_for(alloc, &place, capability, samples.as_slice())?;
         let plain = plain_found_if(alloc, terminal.untrusted, &place, capability)?;
         self.push_counted(subject, outputs.as_slice(), plain.as_slice())?;
@@ -321,6 +337,7 @@ impl<'r, 'a, A: Allocator + Copy> Report<'r, 'a, A> {
         match Capability::parse(subject.text) {
             Ok(capability) => {
                 self.push_ranged_controls(trials, terminal, &capability, subject)?;
+                self.push_crashes(range_of(terminal, subject.name), &capability, subject)?;
                 Ok(())
             }
             Err(_) => {
@@ -366,7 +383,10 @@ impl<'r, 'a, A: Allocator + Copy> Report<'r, 'a, A> {
     {
         let alloc = self.allocator();
         let place = place_in(terminal, subject.name);
-        let outputs = outputs_for(alloc, &place, capability, &few_samples())?;
+        let over = tried_over(capability, None);
+        let named = names_parameter(capability);
+        let samples = samples_of(alloc, named, over)?;
+        let outputs = outputs_for(alloc, &place, capability, samples.as_slice())?;
         let found = unknown_found(alloc, terminal.untrusted, &place, capability, subject.text)?;
         self.push_counted(subject, outputs.as_slice(), found.as_slice())?;
         Ok(())
@@ -384,6 +404,7 @@ impl<'r, 'a, A: Allocator + Copy> Report<'r, 'a, A> {
         match Capability::parse(subject.text) {
             Ok(capability) => {
                 self.push_unknown_capability(terminal, &capability, subject)?;
+                self.push_crashes(None, &capability, subject)?;
                 Ok(())
             }
             Err(_) => {
@@ -424,6 +445,18 @@ impl<'r, 'a, A: Allocator + Copy> Report<'r, 'a, A> {
         Ok(())
     }
 
+    /// Adds the remark that texts are left, whose names come after a space each, if there are any.
+    fn push_left(&mut self, untrusted: bool, spaced: &[u8]) -> Result<(), AllocError>
+        ensures { OnOk result (GainsThese (on_left untrusted spaced.now) self.old self.new) }
+    {
+        let [_, names @ ..] = spaced else {
+            return Ok(());
+        };
+        let evidence = left_evidence(self.allocator(), untrusted, names)?;
+        let places = Vec::new(self.allocator());
+        self.push(About::Entry, places, Finding::NotAllTried, evidence)
+    }
+
     /// Adds the remarks on the texts of an entry of the terminal, and the one that not all were looked at.
     fn push_controls_by(
         &mut self,
@@ -438,8 +471,8 @@ impl<'r, 'a, A: Allocator + Copy> Report<'r, 'a, A> {
         let (end, others_end) = (known_fitting(known), unknown_fitting(others));
         self.push_known_controls(trials, terminal, &known[..end])?;
         self.push_unknown_controls(terminal, &others[..others_end])?;
-        let left = are_left((end, known.len()), (others_end, others.len()));
-        self.push_if(left, Finding::NotAllTried)?;
+        let names = names_of(self.allocator(), &known[end..], &others[others_end..])?;
+        self.push_left(terminal.untrusted, names.as_slice())?;
         Ok(())
     }
 

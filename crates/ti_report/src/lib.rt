@@ -14,6 +14,7 @@ mod colors;
 mod constants;
 mod controls;
 mod coverage;
+mod crashes;
 mod document;
 mod explanation;
 mod finding;

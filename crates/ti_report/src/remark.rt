@@ -44,6 +44,8 @@ pub enum Evidence<A: Allocator> {
     Lacking(&'static str, u16, Vec<u8, A>, Vec<u8, A>),
     /// A control function: its introducer, its content, and what it is for.
     Function(&'static str, Vec<u8, A>, &'static str),
+    /// Names, with a space between two.
+    Named(Vec<u8, A>),
 }
 
 impl<A: Allocator + Copy> Evidence<A> {
@@ -76,6 +78,7 @@ impl<A: Allocator + Copy> Evidence<A> {
             Evidence::Function(label, content, purpose) => {
                 Evidence::Function(label, content.as_slice().to_vec(alloc)?, purpose)
             }
+            Evidence::Named(names) => Evidence::Named(names.as_slice().to_vec(alloc)?),
         })
     }
 }

@@ -215,6 +215,14 @@ fn push_before<A: Allocator, B: Allocator>(
     }
 }
 
+/// Writes names.
+fn push_names<A: Allocator>(out: &mut Vec<u8, A>, names: &[u8]) -> Result<(), AllocError>
+    ensures { OnOk result (out.new.items ≡ out.old.items ++ (codes "; not at " ++ shown forms.Notation names.now)) }
+{
+    out.extend_from_slice(b"; not at ")?;
+    push_shown(out, Form::Notation, names)
+}
+
 /// Writes the evidence that comes after them.
 fn push_after<A: Allocator, B: Allocator>(
     out: &mut Vec<u8, A>,
@@ -227,6 +235,7 @@ fn push_after<A: Allocator, B: Allocator>(
         Evidence::Parameters(set) => push_parameters(out, *set),
         Evidence::Attribute(name, _) => push_label(out, name.as_bytes()),
         Evidence::Lacking(name, _, _, text) => push_text_of(out, name, text.as_slice()),
+        Evidence::Named(names) => push_names(out, names.as_slice()),
         _ => Ok(()),
     }
 }

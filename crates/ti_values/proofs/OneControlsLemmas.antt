@@ -1,5 +1,5 @@
 -- What is found in what a text sends is one.
-use Rattle.std.proofs.Common.{◌≡◌, ◌∙◌, inl, inr, ℤ, ℕ, Bool, false, List, [], ◌∷◌, ◌++◌, ap, length, map, subst, sym}
+use Rattle.std.proofs.Common.{◌≡◌, ◌∙◌, inl, inr, ℤ, ℕ, Bool, false, List, [], ◌∷◌, ◌++◌, ap, ap₂, length, map, subst, sym}
 use Rattle.std.specs.Prelude.{Option, Some, None}
 use Rattle.ti_cap.specs.declared.language.Token.{Token}
 use Rattle.ti_cap.specs.declared.mode.Mode.{Mode}
@@ -15,7 +15,7 @@ use Rattle.ti_expand.specs.State.{State, start}
 use Rattle.ti_expand.specs.Steps.{step_state}
 use Rattle.ti_values.specs.Arms.{AreArms, WritesFrom, arm_bytes, constant_of, placed_at}
 use Rattle.ti_values.specs.Controls.{Found, found_in}
-use Rattle.ti_values.specs.Outputs.{AreArmsFound, AreOutputs, AreSamples, IsOutput, IsTriedOver, samples_of}
+use Rattle.ti_values.specs.Outputs.{AreArmsFound, AreOutputs, AreSamples, IsOutput, IsTriedOver, NamesParameter, samples_of}
 use Rattle.ti_values.specs.Sent.{fresh}
 use Rattle.ti_values.specs.SentBytes.{AreSentBytes, SendsFrom, added, from_start, is_constant, placed_all, unmarked}
 use Rattle.ti_values.specs.declared.placed.PlacedByte.{PlacedByte}
@@ -82,5 +82,12 @@ one_tried_over text (Some range) over other (inl (short, is)) (inr (long, same))
 one_tried_over text (Some range) over other (inr (long, is)) (inl (short, same)) = absurd (long short)
 one_tried_over text (Some range) over other (inr (long, is)) (inr (again, same)) = is ∙ sym same
 
+pub one_named : (text : List ℕ) (named other : Bool) → NamesParameter text named → NamesParameter text other → named ≡ other
+one_named text named other p q =
+    let t = p.tree.tree in
+    let w = p.tree.writes in
+    p.named_is t w ∙ sym (q.named_is t w)
+
 pub one_samples : (text : List ℕ) (range : Option Range) (samples others : List Sample) → AreSamples text range samples → AreSamples text range others → samples ≡ others
-one_samples text range samples others (over, is, are) (other, same, also) = are ∙ ap samples_of (one_tried_over text range over other is same) ∙ sym also
+one_samples text range samples others (named, over, names, is, are) (again, other, too, same, also) =
+    are ∙ ap₂ samples_of (one_named text named again names too) (one_tried_over text range over other is same) ∙ sym also

@@ -38,7 +38,8 @@ pub use limits::{
 pub use list::sent_at;
 pub use negative::first_negative;
 pub use outputs::{
-    arms_found, is_idle, outputs_for, plain_found, plain_outputs, samples_of, tried_over,
+    arms_found, is_idle, names_parameter, outputs_for, plain_found, plain_outputs, samples_of,
+    tried_over,
 };
 pub use placed::{PlacedByte, plain_bytes, sent_bytes};
 pub use range::{Range, values_of};

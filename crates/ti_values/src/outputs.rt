@@ -1,10 +1,12 @@
 //! The control functions that are found in what a text sends.
 
-ghost use Rattle.std.specs.Prelude.{◌≡◌, ◌∷◌, ◌==◌, ◌||◌, [], map, not, IfOk};
+ghost use Rattle.std.specs.List.{list_any};
+ghost use Rattle.std.specs.Prelude.{◌≡◌, ◌∷◌, ◌==◌, ◌||◌, [], List, map, not, IfOk};
+ghost use Rattle.ti_cap.specs.Spelling.{Written};
 ghost use Rattle.ti_control.specs.Parts.{place_at};
 ghost use Rattle.ti_values.specs.Arms.{is_active};
 ghost use Rattle.ti_values.specs.Idle.{IsIdle, is_idle_but, is_idle_text};
-ghost use Rattle.ti_values.specs.Outputs.{AreArmsFound, AreOutputs, IsOutput, IsTriedOver, plain_found, samples_of as the_samples_of};
+ghost use Rattle.ti_values.specs.Outputs.{AreArmsFound, AreOutputs, IsOutput, IsTriedOver, NamesParameter, is_parameter, plain_found, samples_of as the_samples_of};
 ghost use Rattle.ti_values.specs.Samples.{few_samples};
 ghost use Rattle.ti_values.specs.inner.Founds.{founds_held, outputs_held};
 
@@ -15,7 +17,7 @@ use crate::placed::{plain_bytes, sent_bytes};
 use crate::range::Range;
 use crate::samples::{Sample, few_samples, samples_over};
 use std::alloc::{AllocError, Allocator};
-use ti_cap::Capability;
+use ti_cap::{Capability, Tape, Token};
 use ti_control::Place;
 
 /// Whether no token of a capability writes a byte that a control function with an effect needs: it sends none, whatever it is given.
@@ -27,12 +29,48 @@ pub fn is_idle(capability: &Capability<'_>) -> bool
     without_m || without_greater
 }
 
+/// Whether a token pushes a parameter.
+fn is_parameter(token: &Token) -> bool
+    ensures { result ≡ is_parameter token.now }
+{
+    matches!(token, Token::Param(_))
+}
+
+/// Whether a token that is left on a tape does.
+fn any_parameter(tape: &mut Tape<'_>) -> bool
+    ensures { (ks : List Token) → Written ks tape.old.left → result ≡ list_any is_parameter ks }
+{
+    'tokens: while let Some(token) = tape.token() {
+        if is_parameter(&token) {
+            return true;
+        }
+    }
+    false
+}
+
+/// Whether a capability names a parameter. If not, it sends the same for all.
+pub fn names_parameter(capability: &Capability<'_>) -> bool
+    ensures exact { NamesParameter capability.now result }
+{
+    let mut tape = capability.tape();
+    any_parameter(&mut tape)
+}
+
 /// A few samples.
 fn few<A: Allocator>(alloc: A) -> Result<Vec<Sample, A>, AllocError>
     ensures { IfOk result (λ list. list.items ≡ few_samples) }
 {
     let mut list = Vec::new(alloc);
     list.extend_from_slice(&few_samples())?;
+    Ok(list)
+}
+
+/// A sample for a capability that names no parameter.
+fn once<A: Allocator>(alloc: A) -> Result<Vec<Sample, A>, AllocError>
+    ensures { IfOk result (λ list. list.items ≡ Sample.Same 0 ∷ []) }
+{
+    let mut list = Vec::new(alloc);
+    list.push(Sample::Same(0))?;
     Ok(list)
 }
 
@@ -47,17 +85,21 @@ pub fn tried_over(capability: &Capability<'_>, range: Option<Range>) -> Option<R
     Some(range)
 }
 
-/// The samples for which a capability is tried: those of what it is tried over, or a few.
+/// The samples for which a capability is tried: those of what it is tried over, or a few; or one, if it names no parameter.
 ///
 /// # Errors
 ///
 /// Memory was refused.
 pub fn samples_of<A: Allocator + Copy>(
     alloc: A,
+    named: bool,
     over: Option<Range>,
 ) -> Result<Vec<Sample, A>, AllocError>
-    ensures all { IfOk result (λ list. list.items ≡ the_samples_of over) }
+    ensures all { IfOk result (λ list. list.items ≡ the_samples_of named over) }
 {
+    if !named {
+        return once(alloc);
+    }
     match over {
         Some(range) => samples_over(alloc, range),
         None => few(alloc),

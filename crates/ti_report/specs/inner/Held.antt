@@ -1,4 +1,4 @@
--- A row of the table, what a remark is about, its evidence, and the texts of an entry, as the code holds them.
+-- A row of the table, what a remark is about, its evidence, what is known before a token, and the texts of an entry, as the code holds them.
 use Rattle.std.specs.Prelude.{List, map}
 use Rattle.ti_report.specs.Remarks as spec
 use Rattle.ti_report.specs.declared.remark.About.{About}
@@ -12,6 +12,8 @@ use Rattle.ti_report.specs.declared.reported.Head.{Head}
 use Rattle.ti_report.specs.Reported as reports
 use Rattle.ti_report.specs.Controls as controls
 use Rattle.ti_report.specs.declared.controls.Terminal.{Terminal}
+use Rattle.ti_report.specs.Crashes as crashes
+use Rattle.ti_report.specs.declared.crashes.Before.{Before}
 use Rattle.ti_report.specs.declared.subject.KnownText.{KnownText}
 use Rattle.ti_report.specs.Subjects as subjects
 use Rattle.ti_report.specs.declared.origin.Motion.{Motion}
@@ -44,6 +46,10 @@ evidence_held (evidences.SentForTwo one other sent) = spec.SentForTwo one other 
 evidence_held (evidences.Attribute name set) = spec.Attribute name.now set
 evidence_held (evidences.Lacking name set sent text) = spec.Lacking name.now set sent.items text.items
 evidence_held (evidences.Function label content purpose) = spec.Function label.now content.items purpose.now
+evidence_held (evidences.Named names) = spec.Named names.items
+
+abbrev pub before_held : {A : Type 0} → Before A → crashes.Before
+before_held b = record { numbers = b.numbers.items; parameter = b.parameter }
 
 abbrev pub row_held : Row → findings.Row
 row_held r =

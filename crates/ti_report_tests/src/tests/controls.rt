@@ -93,6 +93,29 @@ mistakes | clear=\E[H\E_Gx\E\\ => other-control: APC Gx, a control of some termi
 mistakes | bold=\E[2t\E[1m => window: CSI 2t, a change of the window
 mistakes | bold=\E[21t\E[1m => answer: CSI 21t, a request for the window's title or size
 mistakes | cup=\E[%i%p1%d;%p2%dH\E[>4;2m => reports: CSI >4;2m, a mode in which the terminal reports
+# What each request, and each other function, is called: by xterm's ctlseqs, and for CSI ?u by kitty's protocol of keys.
+mistakes | home=\E[H | bold=\E[#R => answer: CSI #R, a request for a color
+mistakes | home=\E[H | bold=\E[?1;1;0S => answer: CSI ?1;1;0S, a request for what graphics there are
+mistakes | home=\E[H | bold=\E[c => answer: CSI c, a request for the terminal's attributes
+mistakes | home=\E[H | bold=\E[?1$p => answer: CSI ?1$p, a request for a mode
+mistakes | home=\E[H | bold=\E[>q => answer: CSI >q, a request for the terminal's version
+mistakes | home=\E[H | bold=\E[?u => answer: CSI ?u, a request for how keys or characters are set
+mistakes | home=\E[H | bold=\E[1$w => answer: CSI 1$w, a request for the cursor and tabs
+mistakes | home=\E[H | bold=\E[x => answer: CSI x, a request for the terminal's parameters
+mistakes | home=\E[H | bold=\E[1;1*y => answer: CSI 1;1*y, a request for a sum of the screen
+mistakes | home=\E[H | bold=\E[1^Em => answer: CSI 1\^Em, an enquiry
+mistakes | home=\E[H | bold=\EP$qm\E\\ => answer: DCS $qm, a request for a setting
+mistakes | home=\E[H | bold=\E]4;1;?^G => answer: OSC 4;1;?, a request for a color or the clipboard
+mistakes | home=\E[H | bold=\E_a^E\E\\ => answer: APC a\^E, an enquiry
+mistakes | home=\E[H | bold=\EZ => answer: ESC Z, a request for the terminal's identity
+mistakes | home=\E[H | bold=\E]4;1;?\030 => answer: OSC 4;1;?, a request for a color or the clipboard; string-open: OSC 4;1;?\^X, a string without its end
+mistakes | home=\E[H | bold=\EP$qm\030 => answer: DCS $qm, a request for a setting; string-open: DCS $qm\^X, a string without its end
+mistakes | home=\E[H | bold=\E[2h => reports: CSI 2h, a lock of the keyboard
+mistakes | home=\E[H | bold=\E[22t => title: CSI 22t, a title that is saved or restored
+mistakes | home=\E[H | bold=\E[4i => print: CSI 4i, the end of copies to the printer
+mistakes | home=\E[H | bold=\E]P1ff0000 => palette: OSC P1ff0000, a change of colors
+mistakes | home=\E[H | bold=\EXa => string-open: SOS a, a string without its end
+mistakes | home=\E[H | bold=\E\^a => string-open: PM a, a string without its end
 ";
 
 #[test]
@@ -114,6 +137,19 @@ impl Finds for LinesOf {
 const LINES: &str = r"
 mistakes in file | cup=\E[%i%p1%d;%p2%dH\E[6n => file: cup\n  \\E[%i%p1%d;%p2%dH\\E[6n\n                   \^\n  answer: CSI 6n, a request for the cursor's place or a status: the terminal types an answer at the shell\n  do: leave it out, or send it in a string that is for it\n
 mistakes in file | tsl=\E]0;%p1%d | home=\E[H => file: tsl\n  \\E]0;%p1%d\n  \^\n  string-open: OSC 0;0, a string without its end: the terminal takes what follows for part of a string\n  do: add fsl, or end it with \^G or \\E\\\\\n
+mistakes in file | bold=\E[2h | home=\E[H => file: bold\n  \\E[2h\n  \^\n  reports: CSI 2h, a lock of the keyboard: the terminal locks the keyboard\n  do: leave it out, or send it in a string that is for it\n
+mistakes in file | bold=\E[22t | home=\E[H => file: bold\n  \\E[22t\n  \^\n  title: CSI 22t, a title that is saved or restored: the terminal saves or restores the title of its window\n  do: leave it out, or send it in a string that is for it\n
+mistakes in file | bold=\E[4i | home=\E[H => file: bold\n  \\E[4i\n  \^\n  print: CSI 4i, the end of copies to the printer: the terminal stops printing\n  do: leave it out, or send it in a string that is for it\n
+mistakes in file | bold=\E[1m\EPq | home=\E[H => file: bold\n  \\E[1m\\EPq\n       \^\n  string-open: DCS q, a string without its end: the terminal takes what follows for part of a string\n  do: leave it out, or end it with \^G or \\E\\\\\n
+# What the terminal does on each.
+mistakes in file | home=\E[H | clear=\Ec => file: clear\n  \\Ec\n  \^\n  reset: ESC c, a reset: the terminal resets itself\n  do: leave it out, or send it in a string that is for it\n
+mistakes in file | home=\E[H | bold=\E[2t => file: bold\n  \\E[2t\n  \^\n  window: CSI 2t, a change of the window: the terminal moves, resizes or hides its window\n  do: leave it out, or send it in a string that is for it\n
+mistakes in file | home=\E[H | bold=\E]4;1;red^G => file: bold\n  \\E]4;1;red\^G\n  \^\n  palette: OSC 4;1;red, a change of colors: the terminal changes its colors\n  do: leave it out, or send it in a string that is for it\n
+mistakes in file | home=\E[H | bold=\E]2;x^G => file: bold\n  \\E]2;x\^G\n  \^\n  title: OSC 2;x, a title: the terminal sets the title of its window\n  do: leave it out, or send it in a string that is for it\n
+mistakes in file | home=\E[H | bold=\E]52;c;aGk=^G => file: bold\n  \\E]52;c;aGk=\^G\n  \^\n  clipboard: OSC 52;c;aGk=, a text for the clipboard: the terminal writes the clipboard\n  do: leave it out, or send it in a string that is for it\n
+mistakes in file | home=\E[H | bold=\E[5i => file: bold\n  \\E[5i\n  \^\n  print: CSI 5i, a copy to the printer: the terminal prints\n  do: leave it out, or send it in a string that is for it\n
+mistakes in file | home=\E[H | bold=\E[?1000h => file: bold\n  \\E[?1000h\n  \^\n  reports: CSI ?1000h, a mode in which the terminal reports: the terminal types reports at the shell from then on\n  do: leave it out, or send it in a string that is for it\n
+mistakes in file | home=\E[H | bold=\E]9;x^G => file: bold\n  \\E]9;x\^G\n  \^\n  other-control: OSC 9;x, a control of some terminals: the terminal notifies, links or runs a command of its own\n  do: leave it out, or send it in a string that is for it\n
 ";
 
 #[test]

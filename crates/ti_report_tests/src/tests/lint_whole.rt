@@ -136,6 +136,10 @@ bel=^G | cup=\E[%i%p1%d;%p2%dH => Coverage { strings: 2, tried: 0, values: 0, le
 # It is no capability.
 cols#3 | hpa=%u => Coverage { strings: 1, tried: 0, values: 0, left: 0 }
 # All sets of nine attributes.
+colors#8 | setaf=\E[3%p1%dm => Coverage { strings: 1, tried: 1, values: 8, left: 0 }
+# it may write 510 bytes, and what is tried writes 256 at most
+cols#3 | hpa=%p1%255d%p1%255d => Coverage { strings: 1, tried: 0, values: 0, left: 0 }
++xyz=a | bel=^G => Coverage { strings: 2, tried: 0, values: 0, left: 0 }
 sgr=\E[0m => Coverage { strings: 1, tried: 1, values: 512, left: 0 }
 ";
 

@@ -11,8 +11,8 @@ pub returns-then-is_idle : goal.returns-then-is_idle
 returns-then-is_idle g c =
     let s = c.args.subject.now in
     let none =
-    idle_controls (terminal_held c.args.terminal.now) s.name.now s.text.now c.args.capability.now c.range_of.result c.tried_over-over.result c.is_idle.result c.requires
-    c.range_of.ensures c.is_idle.ensures.exact c.if-is_idle.true c.tried_over-over.ensures.exact in
+    idle_controls (terminal_held c.args.terminal.now) s.name.now s.text.now c.args.capability.now c.range_of.result c.tried_over-over.result c.names_parameter-named.result c.is_idle.result c.requires
+    c.range_of.ensures c.is_idle.ensures.exact c.if-is_idle.true c.names_parameter-named.ensures.exact c.tried_over-over.ensures.exact in
     (refl, ([], none, sym (append-nil c.args.self.now.remarks)))
 
 pub returns : goal.returns
@@ -27,7 +27,7 @@ returns g c =
         controls_are (terminal_held c.args.terminal.now) s.name.now s.text.now c.args.capability.now (place_at c.place_in-place.result) c.range_of.result
             c.in_ok-samples.samples.items c.as_slice.result.now (outputs_held c.in_ok-outputs.outputs.items) os (founds_held c.in_ok-plain.plain.items) ps
             c.requires c.place_in-place.ensures c.range_of.ensures c.as_slice.ensures.value (ap outputs_held c.as_slice-2.ensures.value) (ap founds_held c.as_slice-3.ensures.value)
-            (c.tried_over-over.result, c.tried_over-over.ensures.exact, c.in_ok-samples.ensures.all) c.in_ok-outputs.ensures.all c.in_ok-plain.ensures,
+            (c.names_parameter-named.result, c.tried_over-over.result, c.names_parameter-named.ensures.exact, c.tried_over-over.ensures.exact, c.in_ok-samples.ensures.all) c.in_ok-outputs.ensures.all c.in_ok-plain.ensures,
         is,
       ),
     )
