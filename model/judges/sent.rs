@@ -1,5 +1,5 @@
 //! Prints what `functions_of` of `ti_parser` reports: for each line of hexadecimal bytes of a capability a line with a field for each
-//! reading, which has the outcome, the functions and the ends.
+//! reading and each way to take padding marks out, which has the outcome, the functions with their places, and the ends.
 
 extern crate alloc;
 
@@ -9,7 +9,7 @@ mod shown;
 
 use kit::Global;
 use made::cap::Capability;
-use made::parser::{Coding, Configuration, Reading, Within, functions_of};
+use made::parser::{Coding, Configuration, Marks, Reading, Reception, Within, functions_of};
 use shown::shown;
 use std::io::{self, BufRead, Write};
 
@@ -29,10 +29,13 @@ fn main() -> io::Result<()> {
         let mut fields = Vec::new();
         for coding in [Coding::Utf8, Coding::Utf8WithC1, Coding::Bytes] {
             for within in [Within::StartsAnew, Within::GoesOn] {
-                let sent = functions_of(Global, Reading { coding, within }, &capability).expect("memory");
-                let functions: Vec<String> = sent.functions.iter().map(shown).collect();
-                let ends: Vec<String> = sent.ends.iter().map(end).collect();
-                fields.push(format!("{:?} {} {}", sent.outcome, functions.join(","), ends.join(",")));
+                for marks in [Marks::Untouched, Marks::Tputs, Marks::TiPad] {
+                    let reception = Reception { reading: Reading { coding, within }, marks };
+                    let sent = functions_of(Global, reception, &capability).expect("memory");
+                    let functions: Vec<String> = sent.functions.iter().zip(sent.places.iter()).map(|(function, place)| format!("{}@{place}", shown(function))).collect();
+                    let ends: Vec<String> = sent.ends.iter().map(end).collect();
+                    fields.push(format!("{:?} {} {}", sent.outcome, functions.join(","), ends.join(",")));
+                }
             }
         }
         writeln!(out, "{}", fields.join("\t"))?;

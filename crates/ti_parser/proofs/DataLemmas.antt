@@ -1,5 +1,5 @@
 -- Texts that are data stay so on each path, and what is printed of them is data.
-use Rattle.std.proofs.Common.{◌≡◌, ℕ, zero, suc, ◌-◌, Bool, true, false, ◌||◌, List, [], ◌∷◌, ◌++◌, length, take, replicate, nat_lt, refl, sym, subst, arith, if◌then◌else◌}
+use Rattle.std.proofs.Common.{◌≡◌, ℕ, zero, suc, ◌-◌, Bool, true, false, ◌||◌, List, [], ◌∷◌, ◌++◌, length, take, replicate, nat_lt, refl, sym, ◌∙◌, subst, arith, ℤ, if◌then◌else◌}
 use Rattle.std.proofs.lemmas.Bool.Decides.{nat_tests}
 use Rattle.std.specs.List.{AllByRecursion}
 use Rattle.std.specs.Prelude.{Option, Some, None}
@@ -14,7 +14,8 @@ use Rattle.ti_cap.specs.declared.mode.Mode.{Mode}
 use Rattle.ti_cap.specs.Pass.{is_running, next_mode}
 use Rattle.ti_expand.specs.Effect.{print_for, after_operation, one_more, with_increments}
 use Rattle.ti_expand.specs.Printed.{print_of_text, up_to_precision}
-use Rattle.ti_expand.specs.State.{State, parameter, text_on, without_top}
+use Rattle.std.proofs.Math.ListN.{length-set}
+use Rattle.ti_expand.specs.State.{State, number_on, parameter, text_on, variable_index, with_variable_at, without_top}
 use Rattle.ti_expand.specs.Steps.{meet}
 use Rattle.ti_expand.specs.declared.values.Value.{Value}
 use Rattle.ti_expand.specs.declared.values.Value.TheVariants.{Num, Text}
@@ -49,19 +50,23 @@ increments_data [] h = tt
 increments_data (p ∷ []) h = (more_data p h.0, tt)
 increments_data (p ∷ q ∷ ps) h = (more_data p h.0, (more_data q h.1.0, h.1.1))
 
+stored_many : (variables : List ℤ) (index : Option ℕ) (n : ℤ) → length (with_variable_at variables index n) ≡ length variables
+stored_many variables None n = refl
+stored_many variables (Some index) n = simp length-set
+
 data_meet : (k : Token) (s : State) → AreData s → AreData (meet k s)
-data_meet (Byte b) s h = record { stack = h.stack; parameters = h.parameters }
-data_meet (Param k) s h = record { stack = (parameter_data s.parameters k h.parameters, h.stack); parameters = h.parameters }
-data_meet (Constant n) s h = record { stack = (tt, h.stack); parameters = h.parameters }
-data_meet (Store v) s h = record { stack = without_top_data s.stack h.stack; parameters = h.parameters }
-data_meet (Load v) s h = record { stack = (tt, h.stack); parameters = h.parameters }
-data_meet Length s h = record { stack = (tt, without_top_data s.stack h.stack); parameters = h.parameters }
-data_meet (Compute op) s h = record { stack = operation_data op s.stack h.stack; parameters = h.parameters }
-data_meet Increment s h = record { stack = h.stack; parameters = increments_data s.parameters h.parameters }
-data_meet Char s h = record { stack = without_top_data s.stack h.stack; parameters = h.parameters }
-data_meet (Print f) s h = record { stack = without_top_data s.stack h.stack; parameters = h.parameters }
+data_meet (Byte b) s h = record { variables = h.variables; stack = h.stack; parameters = h.parameters }
+data_meet (Param k) s h = record { variables = h.variables; stack = (parameter_data s.parameters k h.parameters, h.stack); parameters = h.parameters }
+data_meet (Constant n) s h = record { variables = h.variables; stack = (tt, h.stack); parameters = h.parameters }
+data_meet (Store v) s h = record { variables = stored_many s.variables (variable_index v) (number_on s.stack) ∙ h.variables; stack = without_top_data s.stack h.stack; parameters = h.parameters }
+data_meet (Load v) s h = record { variables = h.variables; stack = (tt, h.stack); parameters = h.parameters }
+data_meet Length s h = record { variables = h.variables; stack = (tt, without_top_data s.stack h.stack); parameters = h.parameters }
+data_meet (Compute op) s h = record { variables = h.variables; stack = operation_data op s.stack h.stack; parameters = h.parameters }
+data_meet Increment s h = record { variables = h.variables; stack = h.stack; parameters = increments_data s.parameters h.parameters }
+data_meet Char s h = record { variables = h.variables; stack = without_top_data s.stack h.stack; parameters = h.parameters }
+data_meet (Print f) s h = record { variables = h.variables; stack = without_top_data s.stack h.stack; parameters = h.parameters }
 data_meet CondOpen s h = h
-data_meet CondThen s h = record { stack = without_top_data s.stack h.stack; parameters = h.parameters }
+data_meet CondThen s h = record { variables = h.variables; stack = without_top_data s.stack h.stack; parameters = h.parameters }
 data_meet CondElse s h = h
 data_meet CondClose s h = h
 

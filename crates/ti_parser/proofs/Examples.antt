@@ -6,6 +6,7 @@ use Rattle.ti_parser.specs.Characters.{decoded}
 use Rattle.ti_parser.specs.Classes.{class_of}
 use Rattle.ti_parser.specs.Functions.{blank, control}
 use Rattle.ti_parser.specs.Machine.{act, anew, ground, introduced, plain, run, step, taken}
+use Rattle.ti_parser.specs.Padding.{completes, left_from, turn_of, without_marks}
 use Rattle.ti_parser.specs.Transitions.{transition_of}
 use Rattle.ti_parser.specs.declared.character.Begun.{Begun}
 use Rattle.ti_parser.specs.declared.character.Begun.TheVariants.{Nothing, Latin, One}
@@ -14,6 +15,7 @@ use Rattle.ti_parser.specs.declared.function.Intermediates.TheVariants.{Single, 
 use Rattle.ti_parser.specs.declared.function.FunctionKind.TheVariants.{Escape, Sequence, Device, System, Application, Title}
 use Rattle.ti_parser.specs.declared.number.FunctionNumber.{FunctionNumber}
 use Rattle.ti_parser.specs.declared.number.FunctionNumber.TheVariants.{Absent, Known, Large}
+use Rattle.ti_parser.specs.declared.padding.Marks.TheVariants.{Untouched, Tputs, TiPad}
 use Rattle.ti_parser.specs.declared.reading.Coding.{Coding}
 use Rattle.ti_parser.specs.declared.reading.Coding.TheVariants.{Utf8, Utf8WithC1, Bytes}
 use Rattle.ti_parser.specs.declared.reading.Reading.{Reading}
@@ -129,3 +131,14 @@ begun_rows : (begun_after (194 ∷ []) ≡ Latin) × (begun_after (226 ∷ 130 �
     × (sent utf8 (194 ∷ e (codes "[K")) ≡ csi [] (codes "K") ∷ [])
 unfolding run step taken plain act introduced anew decoded class_of transition_of
 begun_rows = (refl, refl, refl, refl, refl, refl)
+
+-- ---- padding marks: `tputs` takes one byte after a number, whatever it is, if a `>` comes later, and no byte after a `$` for a `$`
+
+mark_rows : (without_marks Tputs (codes "a$<5>b$<2.5*/>c") ≡ codes "abc") × (without_marks TiPad (codes "a$<5>b$<2.5*/>c") ≡ codes "abc")
+    × (without_marks Untouched (codes "a$<5>") ≡ codes "a$<5>")
+    × (without_marks Tputs (codes "$<9" ++ e (codes "[6n>")) ≡ codes "[6n>") × (without_marks TiPad (codes "$<9" ++ e (codes "[6n>")) ≡ codes "$<9" ++ e (codes "[6n>"))
+    × (without_marks Tputs (codes "$<9" ++ e (codes "[6n")) ≡ codes "$<9" ++ e (codes "[6n"))
+    × (without_marks Tputs (codes "$$<5>") ≡ codes "$$<5>") × (without_marks TiPad (codes "$$<5>") ≡ codes "$")
+    × (without_marks Tputs (codes "$<123456**//>a") ≡ codes "a") × (without_marks TiPad (codes "$<123456>") ≡ codes "$<123456>") × (without_marks TiPad (codes "$<.>") ≡ codes "$<.>")
+unfolding left_from completes turn_of
+mark_rows = (refl, refl, refl, refl, refl, refl, refl, refl, refl, refl, refl)

@@ -4,6 +4,7 @@ pub mod DataLemmas
 pub mod DigitLemmas
 pub mod Examples
 pub mod FormLemmas
+pub mod HearLemmas
 pub mod KnowsLemmas
 pub mod LeadLemmas
 pub mod PathsLemmas

@@ -7,16 +7,17 @@ use Rattle.ti_expand.specs.Effect.{print_for}
 use Rattle.ti_expand.specs.Printed.{print_of_number}
 use Rattle.ti_expand.specs.State.{number_on}
 use Rattle.ti_expand.specs.declared.values.Value.{Value}
-use Rattle.ti_parser.specs.Covers.{CoverMore, Lead, SendMore}
+use Rattle.ti_parser.specs.Covers.{SendMore}
+use Rattle.ti_parser.specs.inner.Receivers.{CoverMore, Lead}
 use Rattle.ti_parser.specs.inner.Forms.{plus_of, sign_of}
-use Rattle.ti_parser.specs.declared.configuration.Configuration.{Configuration}
+use Rattle.ti_parser.specs.declared.receiver.Receiver.{Receiver}
 use Rattle.ti_parser.specs.declared.function.Function.{Function}
-use Rattle.ti_parser.specs.declared.reading.Reading.{Reading}
+use Rattle.ti_parser.specs.declared.reading.Reception.{Reception}
 use Rattle.ti_parser.proofs.FormLemmas.{NumberParts}
 use Rattle.ti_parser.proofs.LeadLemmas.{lead_more, lead_then}
 
 -- a sign or none
-pub lead_sign : (r : Reading) (f : Format) (here positive negative both : List Configuration) (s t : List Function) → Lead r (plus_of f) here s positive → SendMore s t
+pub lead_sign : (r : Reception) (f : Format) (here positive negative both : List Receiver) (s t : List Function) → Lead r (plus_of f) here s positive → SendMore s t
     → Lead r (codes "-") here t negative → CoverMore positive both → CoverMore negative both → (n : ℤ) → Lead r (sign_of Signed f n) here t both
 lead_sign r f here positive negative both s t p m g a b (pos n) = lead_more r (plus_of f) here positive both s t p m a
 lead_sign r f here positive negative both s t p m g a b (negsuc n) = lead_more r (codes "-") here negative both t t g (λ x h. h) b
@@ -26,7 +27,7 @@ no_sign Signed f n h = absurd (h refl)
 no_sign c f n h = refl
 
 -- the parts of a number, one after the other
-pub lead_number : (r : Reading) (c : Conversion) (f : Format) (n : ℤ) (text : List ℕ) (p : NumberParts c f n text) (start front signed number after : List Configuration) (s t u v : List Function)
+pub lead_number : (r : Reception) (c : Conversion) (f : Format) (n : ℤ) (text : List ℕ) (p : NumberParts c f n text) (start front signed number after : List Receiver) (s t u v : List Function)
     → Lead r p.before start s front → SendMore s t → Lead r (sign_of c f n) front t signed → SendMore t u → Lead r p.digits signed u number → SendMore u v → Lead r p.after number v after
     → Lead r text start v after
 lead_number r c f n text p start front signed number after s t u v a st b tu d uv e =

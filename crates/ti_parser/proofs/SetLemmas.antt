@@ -1,6 +1,8 @@
 -- Sets of parsers and of functions.
 use Rattle.std.proofs.Common.{◌≡◌, ℕ, zero, suc, ◌<◌, List, [], ◌∷◌, ◌++◌, ◌⊎◌, inl, inr, length, map, get_or, take, drop, sym, ap, subst, arith}
-use Rattle.ti_parser.specs.Covers.{AreSent, CoverMore, CoversNumber, CoverNumbers, CoversConfiguration, CoversFunction, IsCovered, SendMore}
+use Rattle.ti_parser.specs.Covers.{AreSent, CoversNumber, CoverNumbers, CoversConfiguration, CoversFunction, IsCovered, SendMore}
+use Rattle.ti_parser.specs.inner.Receivers.{CoverMore, CoversMoment, IsAmong, Moment}
+use Rattle.ti_parser.specs.declared.receiver.Receiver.{Receiver}
 use Rattle.ti_parser.specs.declared.configuration.Configuration.{Configuration}
 use Rattle.ti_parser.specs.declared.function.Function.{Function}
 use Rattle.ti_parser.specs.Numbers.{forgotten}
@@ -24,30 +26,44 @@ same_function f g e1 e2 e3 e4 e5 e6 e7 = λ i. record {
 pub same_configuration : (c d : Configuration) → c.state ≡ d.state → c.begun ≡ d.begun → c.number ≡ d.number → c.underway ≡ d.underway → c ≡ d
 same_configuration c d e1 e2 e3 e4 = λ i. record { state = e1 i; begun = e2 i; number = e3 i; underway = e4 i }
 
+pub same_receiver : (k m : Receiver) → k.front ≡ m.front → k.ahead ≡ m.ahead → k.parser ≡ m.parser → k ≡ m
+same_receiver k m e1 e2 e3 = λ i. record { front = e1 i; ahead = e2 i; parser = e3 i }
+
 -- ---- more parsers
 
-pub cover_left : (few many : List Configuration) → CoverMore few (few ++ many)
-cover_left (x ∷ few) many c (inl h) = inl h
-cover_left (x ∷ few) many c (inr h) = inr (cover_left few many c h)
-cover_left [] many c h = absurd h
+pub covered_left : (few many : List Configuration) (c : Configuration) → IsCovered few c → IsCovered (few ++ many) c
+covered_left (x ∷ few) many c (inl h) = inl h
+covered_left (x ∷ few) many c (inr h) = inr (covered_left few many c h)
+covered_left [] many c h = absurd h
 
-pub cover_right : (few many : List Configuration) → CoverMore many (few ++ many)
-cover_right [] many c h = h
-cover_right (x ∷ few) many c h = inr (cover_right few many c h)
+pub covered_right : (few many : List Configuration) (c : Configuration) → IsCovered many c → IsCovered (few ++ many) c
+covered_right [] many c h = h
+covered_right (x ∷ few) many c h = inr (covered_right few many c h)
 
--- a parser that is one of them
-pub cover_at : (many : List Configuration) (k : ℕ) (x : Configuration) → k < length many → x ≡ get_or many k x → CoverMore (x ∷ []) many
-cover_at [] k x low e c h = absurd (omega arith)
-cover_at (y ∷ many) k x low e c (inr h) = absurd h
-cover_at (y ∷ many) zero x low e c (inl h) = let P : Configuration → Type 0 = λ z. CoversConfiguration z c in inl (subst P e h)
-cover_at (y ∷ many) (suc k) x low e c h = inr (cover_at many k x (omega arith) e c h)
+-- ---- more receivers
 
--- what one parser more covers
-pub split_last : (few : List Configuration) (x c : Configuration) → IsCovered (few ++ x ∷ []) c → IsCovered few c ⊎ CoversConfiguration x c
-split_last [] x c (inl h) = inr h
-split_last [] x c (inr h) = absurd h
-split_last (y ∷ few) x c (inl h) = inl (inl h)
-split_last (y ∷ few) x c (inr h) = elim (split_last few x c h) [ inl g ↦ inl (inr g) | inr g ↦ inr g ]
+pub cover_left : (few many : List Receiver) → CoverMore few (few ++ many)
+cover_left (x ∷ few) many m (inl h) = inl h
+cover_left (x ∷ few) many m (inr h) = inr (cover_left few many m h)
+cover_left [] many m h = absurd h
+
+pub cover_right : (few many : List Receiver) → CoverMore many (few ++ many)
+cover_right [] many m h = h
+cover_right (x ∷ few) many m h = inr (cover_right few many m h)
+
+-- a receiver that is one of them
+pub cover_at : (many : List Receiver) (k : ℕ) (x : Receiver) → k < length many → x ≡ get_or many k x → CoverMore (x ∷ []) many
+cover_at [] k x low e m h = absurd (omega arith)
+cover_at (y ∷ many) k x low e m (inr h) = absurd h
+cover_at (y ∷ many) zero x low e m (inl h) = let P : Receiver → Type 0 = λ z. CoversMoment z m in inl (subst P e h)
+cover_at (y ∷ many) (suc k) x low e m h = inr (cover_at many k x (omega arith) e m h)
+
+-- what one receiver more covers
+pub split_last : (few : List Receiver) (x : Receiver) (m : Moment) → IsAmong (few ++ x ∷ []) m → IsAmong few m ⊎ CoversMoment x m
+split_last [] x m (inl h) = inr h
+split_last [] x m (inr h) = absurd h
+split_last (y ∷ few) x m (inl h) = inl (inl h)
+split_last (y ∷ few) x m (inr h) = elim (split_last few x m h) [ inl g ↦ inl (inr g) | inr g ↦ inr g ]
 
 -- ---- more functions
 

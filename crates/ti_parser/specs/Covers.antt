@@ -1,12 +1,11 @@
 -- Parsers with numbers that are not known, and the parsers that they stand for.
 use Rattle.std.specs.Prelude.{◌≡◌, ℕ, Bool, true, List, [], ◌∷◌, ◌⊎◌, nat_eq}
 use Rattle.std.specs.List.{AllByRecursion, list_any}
-use Rattle.ti_parser.specs.Machine.{Run, run}
+use Rattle.ti_parser.specs.Machine.{Run}
 use Rattle.ti_parser.specs.declared.configuration.Configuration.{Configuration}
 use Rattle.ti_parser.specs.declared.function.Function.{Function}
 use Rattle.ti_parser.specs.declared.number.FunctionNumber.{FunctionNumber}
 use Rattle.ti_parser.specs.declared.number.FunctionNumber.TheVariants.{Absent, Any}
-use Rattle.ti_parser.specs.declared.reading.Reading.{Reading}
 
 -- a number that is not known stands for each that came
 abbrev pub CoversNumber : FunctionNumber → FunctionNumber → Type 0
@@ -48,20 +47,9 @@ pub record IsRunCovered (parsers : List Configuration) (sent : List Function) (r
   pub ends : IsCovered parsers r.configuration
   pub sends : AreSent sent r.functions
 
--- what the first cover the second do
-abbrev pub CoverMore : List Configuration → List Configuration → Type 0
-CoverMore few many = (c : Configuration) → IsCovered few c → IsCovered many c
-
+-- what is among the first is among the second
 abbrev pub SendMore : List Function → List Function → Type 0
 SendMore few many = (function : Function) → IsSent few function → IsSent many function
-
--- from all that the first parsers cover, the bytes lead to what the second do, and hand out none but these functions
-abbrev pub Lead : Reading → List ℕ → List Configuration → List Function → List Configuration → Type 0
-Lead reading bytes before sent after = (c : Configuration) → IsCovered before c → IsRunCovered after sent (run reading c bytes)
-
--- so does each of these bytes
-abbrev pub EachLeads : Reading → List ℕ → List Configuration → List Function → List Configuration → Type 0
-EachLeads reading bytes before sent after = AllByRecursion (λ byte. Lead reading (byte ∷ []) before sent after) bytes
 
 abbrev pub is_one_of : List ℕ → ℕ → Bool
 is_one_of bytes byte = list_any (nat_eq byte) bytes

@@ -5,6 +5,7 @@ pub mod Functions
 pub mod Laws
 pub mod Machine
 pub mod Numbers
+pub mod Padding
 pub mod Paths
 pub mod States
 pub mod Tops

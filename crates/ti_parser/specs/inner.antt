@@ -1,3 +1,4 @@
 -- What private clauses alone cite.
 pub mod Forms
 pub mod Paths
+pub mod Receivers

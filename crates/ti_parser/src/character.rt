@@ -51,7 +51,7 @@ pub(crate) struct Decoded {
 }
 
 /// Whether a byte lies between two, which are included.
-fn is_between(low: u8, high: u8, byte: u8) -> bool
+pub(crate) fn is_between(low: u8, high: u8, byte: u8) -> bool
     ensures { result ≡ is_between low high byte }
 {
     low <= byte && byte <= high

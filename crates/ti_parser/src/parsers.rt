@@ -1,18 +1,21 @@
 //! Sets of parsers, and the functions that they hand out.
 
-ghost use Rattle.std.specs.Prelude.{◌≡◌, ◌≤◌, ℕ, List, [], ◌∷◌, IfOk, OnOk, length};
+ghost use Rattle.std.specs.Prelude.{◌≡◌, ◌≤◌, ℕ, List, [], ◌∷◌, IfOk, OnOk, length, true};
 ghost use Rattle.std.specs.Bool.{OnTrue};
-ghost use Rattle.ti_parser.specs.Covers.{CoverMore, EachLeads, IsOf, Lead, SendMore};
+ghost use Rattle.ti_parser.specs.Covers.{IsOf, SendMore};
+ghost use Rattle.ti_parser.specs.inner.Receivers.{CoverMore, EachLeads, IsMoved, Lead, begun, may_begin, move_of};
 ghost use Rattle.ti_parser.specs.Functions.{listed};
 ghost use Rattle.ti_parser.specs.declared.parsers.Lost.TheVariants as lost;
 
-use crate::configuration::{Configuration, Detail};
+use crate::configuration::Detail;
 use crate::function::{Function, HandedOut};
-use crate::reading::Reading;
+use crate::padding::{Front, Marks, Part};
+use crate::reading::Reception;
+use crate::receiver::{Ahead, Move, Receiver, may_begin, move_of};
 use std::alloc::{AllocError, Allocator};
 
 /// Whether one of the parsers is the same.
-fn has(parsers: &[Configuration], parser: &Configuration) -> bool
+fn has(parsers: &[Receiver], parser: &Receiver) -> bool
     ensures { OnTrue result (CoverMore (parser.now ∷ []) parsers.now) }
 {
     for known in parsers {
@@ -24,7 +27,7 @@ fn has(parsers: &[Configuration], parser: &Configuration) -> bool
 }
 
 /// Whether each of these parsers is the same as one of the others.
-fn has_all(parsers: &[Configuration], others: &[Configuration]) -> bool
+fn has_all(parsers: &[Receiver], others: &[Receiver]) -> bool
     ensures { OnTrue result (CoverMore others.now parsers.now) }
 {
     for other in others {
@@ -36,10 +39,7 @@ fn has_all(parsers: &[Configuration], others: &[Configuration]) -> bool
 }
 
 /// Adds a parser, if there is none that is the same.
-fn insert<A: Allocator>(
-    parsers: &mut Vec<Configuration, A>,
-    parser: Configuration,
-) -> Result<(), AllocError>
+fn insert<A: Allocator>(parsers: &mut Vec<Receiver, A>, parser: Receiver) -> Result<(), AllocError>
     ensures kept { OnOk result (CoverMore parsers.old.items parsers.new.items) }
     ensures held { OnOk result (CoverMore (parser ∷ []) parsers.new.items) }
 {
@@ -51,8 +51,8 @@ fn insert<A: Allocator>(
 
 /// Adds parsers with so much of their numbers.
 pub(crate) fn insert_all<A: Allocator>(
-    parsers: &mut Vec<Configuration, A>,
-    others: &[Configuration],
+    parsers: &mut Vec<Receiver, A>,
+    others: &[Receiver],
     detail: Detail,
 ) -> Result<(), AllocError>
     ensures kept { OnOk result (CoverMore parsers.old.items parsers.new.items) }
@@ -119,24 +119,90 @@ fn send_all<A: Allocator>(sent: &mut Vec<Function, A>, output: HandedOut) -> Res
     Ok(())
 }
 
+/// Adds the receiver for which a byte is the first of a mark, if it may be.
+fn begin<A: Allocator>(
+    marks: Marks,
+    receiver: &Receiver,
+    byte: u8,
+    after: &mut Vec<Receiver, A>,
+) -> Result<(), AllocError>
+    ensures kept { OnOk result (CoverMore after.old.items after.new.items) }
+    ensures begins { OnOk result (may_begin marks receiver.now.front byte ≡ true
+        → CoverMore (begun receiver.now ∷ []) after.new.items) }
+{
+    if may_begin(marks, receiver.front, byte) {
+        insert(
+            after,
+            receiver.placed(Front::Mark(Part::Dollar), Ahead::Unknown),
+        )?;
+        Ok(())
+    } else {
+        Ok(())
+    }
+}
+
+/// Adds what a byte that begins no mark makes of a receiver.
+fn go_on<A: Allocator>(
+    reception: Reception,
+    receiver: &Receiver,
+    byte: u8,
+    sent: &mut Vec<Function, A>,
+    after: &mut Vec<Receiver, A>,
+) -> Result<(), AllocError>
+    ensures sent { OnOk result (SendMore sent.old.items sent.new.items) }
+    ensures kept { OnOk result (CoverMore after.old.items after.new.items) }
+    ensures moves { OnOk result (IsMoved reception.reading byte receiver.now
+        (move_of reception.marks receiver.now.front receiver.now.ahead byte) sent.new.items after.new.items) }
+{
+    match move_of(reception.marks, receiver.front, receiver.ahead, byte) {
+        Move::Gone => Ok(()),
+        Move::Skips(front, ahead) => {
+            insert(after, receiver.placed(front, ahead))?;
+            Ok(())
+        }
+        Move::Sends(front, ahead) => {
+            let mut next = receiver.placed(front, ahead);
+            let output = next.parser.step(reception.reading, byte);
+            send_all(sent, output)?;
+            insert(after, next)?;
+            Ok(())
+        }
+    }
+}
+
+/// Adds what a byte makes of a receiver.
+fn hear<A: Allocator>(
+    reception: Reception,
+    receiver: &Receiver,
+    byte: u8,
+    sent: &mut Vec<Function, A>,
+    after: &mut Vec<Receiver, A>,
+) -> Result<(), AllocError>
+    ensures sent { OnOk result (SendMore sent.old.items sent.new.items) }
+    ensures kept { OnOk result (CoverMore after.old.items after.new.items) }
+    ensures leads { OnOk result
+        (Lead reception (byte ∷ []) (receiver.now ∷ []) sent.new.items after.new.items) }
+{
+    begin(reception.marks, receiver, byte, after)?;
+    go_on(reception, receiver, byte, sent, after)?;
+    Ok(())
+}
+
 /// The parsers after a byte.
 fn step_all<A: Allocator>(
     alloc: A,
-    reading: Reading,
-    parsers: &[Configuration],
+    reception: Reception,
+    parsers: &[Receiver],
     byte: u8,
     sent: &mut Vec<Function, A>,
-) -> Result<Vec<Configuration, A>, AllocError>
+) -> Result<Vec<Receiver, A>, AllocError>
     ensures kept { OnOk result (SendMore sent.old.items sent.new.items) }
     ensures leads { IfOk result
-        (λ after. Lead reading (byte ∷ []) parsers.now sent.new.items after.items) }
+        (λ after. Lead reception (byte ∷ []) parsers.now sent.new.items after.items) }
 {
     let mut after = Vec::new(alloc);
     for parser in parsers {
-        let mut next = parser.duplicate();
-        let output = next.step(reading, byte);
-        send_all(sent, output)?;
-        insert(&mut after, next)?;
+        hear(reception, parser, byte, sent, &mut after)?;
     }
     Ok(after)
 }
@@ -144,19 +210,19 @@ fn step_all<A: Allocator>(
 /// The parsers after some bytes.
 pub(crate) fn follow<A: Allocator + Copy>(
     alloc: A,
-    reading: Reading,
-    parsers: &[Configuration],
+    reception: Reception,
+    parsers: &[Receiver],
     bytes: &[u8],
     sent: &mut Vec<Function, A>,
-) -> Result<Vec<Configuration, A>, AllocError>
+) -> Result<Vec<Receiver, A>, AllocError>
     ensures kept { OnOk result (SendMore sent.old.items sent.new.items) }
     ensures leads { IfOk result
-        (λ after. Lead reading bytes.now parsers.now sent.new.items after.items) }
+        (λ after. Lead reception bytes.now parsers.now sent.new.items after.items) }
 {
     let mut now = Vec::new(alloc);
     insert_all(&mut now, parsers, Detail::Whole)?;
     for byte in bytes {
-        now = step_all(alloc, reading, &now, *byte, sent)?;
+        now = step_all(alloc, reception, &now, *byte, sent)?;
     }
     Ok(now)
 }
@@ -187,8 +253,8 @@ impl From<AllocError> for Lost {
 /// The same parsers if they are few, else without the values of their numbers.
 pub(crate) fn limit<A: Allocator>(
     alloc: A,
-    parsers: Vec<Configuration, A>,
-) -> Result<Vec<Configuration, A>, Lost>
+    parsers: Vec<Receiver, A>,
+) -> Result<Vec<Receiver, A>, Lost>
     ensures { IfOk result (λ few. CoverMore parsers.items few.items) }
 {
     if parsers.len() <= MOST_WHOLE {
@@ -205,9 +271,9 @@ pub(crate) fn limit<A: Allocator>(
 /// The parsers of both sets.
 pub(crate) fn unite<A: Allocator>(
     alloc: A,
-    left: Vec<Configuration, A>,
-    right: &[Configuration],
-) -> Result<Vec<Configuration, A>, Lost>
+    left: Vec<Receiver, A>,
+    right: &[Receiver],
+) -> Result<Vec<Receiver, A>, Lost>
     ensures left { IfOk result (λ both. CoverMore left.items both.items) }
     ensures right { IfOk result (λ both. CoverMore right.now both.items) }
 {
@@ -220,18 +286,18 @@ pub(crate) fn unite<A: Allocator>(
 /// The parsers after any of these bytes.
 fn step_any<A: Allocator + Copy>(
     alloc: A,
-    reading: Reading,
-    parsers: &[Configuration],
+    reception: Reception,
+    parsers: &[Receiver],
     bytes: &[u8],
     sent: &mut Vec<Function, A>,
-) -> Result<Vec<Configuration, A>, Lost>
+) -> Result<Vec<Receiver, A>, Lost>
     ensures kept { OnOk result (SendMore sent.old.items sent.new.items) }
     ensures leads { IfOk result
-        (λ after. EachLeads reading bytes.now parsers.now sent.new.items after.items) }
+        (λ after. EachLeads reception bytes.now parsers.now sent.new.items after.items) }
 {
     let mut after = Vec::new(alloc);
     for byte in bytes {
-        let next = step_all(alloc, reading, parsers, *byte, sent)?;
+        let next = step_all(alloc, reception, parsers, *byte, sent)?;
         insert_all(&mut after, &next, Detail::ButLast)?;
     }
     let few = limit(alloc, after)?;
@@ -244,18 +310,18 @@ const ROUNDS: usize = 10;
 /// The parsers after any number of these bytes.
 pub(crate) fn step_on<A: Allocator + Copy>(
     alloc: A,
-    reading: Reading,
-    parsers: Vec<Configuration, A>,
+    reception: Reception,
+    parsers: Vec<Receiver, A>,
     bytes: &[u8],
     sent: &mut Vec<Function, A>,
-) -> Result<Vec<Configuration, A>, Lost>
+) -> Result<Vec<Receiver, A>, Lost>
     ensures kept { OnOk result (SendMore sent.old.items sent.new.items) }
     ensures leads { IfOk result (λ after. (text : List ℕ) → IsOf bytes.now text
-        → Lead reading text parsers.items sent.new.items after.items) }
+        → Lead reception text parsers.items sent.new.items after.items) }
 {
     let mut all = parsers;
     for _ in 0..ROUNDS {
-        let more = step_any(alloc, reading, &all, bytes, sent)?;
+        let more = step_any(alloc, reception, &all, bytes, sent)?;
         if has_all(&all, &more) {
             return Ok(all);
         }
@@ -268,20 +334,20 @@ pub(crate) fn step_on<A: Allocator + Copy>(
 /// The parsers after so many of these bytes or more.
 pub(crate) fn step_most<A: Allocator + Copy>(
     alloc: A,
-    reading: Reading,
-    parsers: Vec<Configuration, A>,
+    reception: Reception,
+    parsers: Vec<Receiver, A>,
     digits: Digits<'_>,
     sent: &mut Vec<Function, A>,
-) -> Result<Vec<Configuration, A>, Lost>
+) -> Result<Vec<Receiver, A>, Lost>
     ensures kept { OnOk result (SendMore sent.old.items sent.new.items) }
     ensures leads { IfOk result (λ after. (text : List ℕ) → IsOf digits.entry.bytes.now text
-        → digits.entry.least ≤ length text → Lead reading text parsers.items sent.new.items after.items) }
+        → digits.entry.least ≤ length text → Lead reception text parsers.items sent.new.items after.items) }
 {
     let mut now = parsers;
     for _ in 0..digits.least {
-        now = step_any(alloc, reading, &now, digits.bytes, sent)?;
+        now = step_any(alloc, reception, &now, digits.bytes, sent)?;
     }
-    let after = step_on(alloc, reading, now, digits.bytes, sent)?;
+    let after = step_on(alloc, reception, now, digits.bytes, sent)?;
     Ok(after)
 }
 

@@ -1,21 +1,22 @@
 //! One pass over the tokens of a capability, along all its paths.
 
-ghost use Rattle.std.specs.Prelude.{◌≡◌, ◌++◌, ◌∷◌, [], IfOk, OnOk};
+ghost use Rattle.std.specs.Prelude.{◌≡◌, ◌++◌, ◌∷◌, [], IfOk, OnOk, vec_len};
 ghost use Rattle.ti_cap.specs.declared.mode.Mode.{Mode};
 ghost use Rattle.ti_expand.specs.State.{State};
-ghost use Rattle.ti_parser.specs.Covers.{CoverMore};
-ghost use Rattle.ti_parser.specs.Machine.{ground};
-ghost use Rattle.ti_parser.specs.Paths.{AreData, IsCover, IsKnown, IsOutputCovered, KnowsOn, nothing_waits};
+ghost use Rattle.ti_parser.specs.Paths.{AreData, IsCover, IsKnown, KnowsOn, Leads, nothing_waits};
+ghost use Rattle.ti_parser.specs.inner.Receivers.{CoverMore, can_end, ends_text, outside};
 ghost use Rattle.ti_parser.specs.Tops.{no_tops, popped};
 ghost use Rattle.ti_parser.specs.declared.paths.Outcome.TheVariants as outcome;
-ghost use Rattle.ti_parser.specs.declared.reading.Reading.{Reading};
-ghost use Rattle.ti_parser.specs.inner.Paths.{IsLeft, IsTested, IsTurned};
+ghost use Rattle.ti_parser.specs.declared.reading.Reception.{Reception};
+ghost use Rattle.ti_parser.specs.inner.Paths.{EndMore, IsLeft, IsTested, IsTurned, LeadsAll};
 
 use crate::configuration::Configuration;
 use crate::function::Function;
+use crate::padding::Front;
 use crate::parsers::Lost;
 use crate::point::{OpenPoints, Point, nowhere, pop_open, push_open, union};
-use crate::reading::Reading;
+use crate::reading::Reception;
+use crate::receiver::{Ahead, Receiver};
 use crate::tops::Tops;
 use crate::write::write;
 use std::alloc::{AllocError, Allocator};
@@ -30,6 +31,10 @@ struct Paths<A: Allocator> {
     opens: Vec<OpenPoints<A>, A>,
     /// What was handed out.
     sent: Vec<Function, A>,
+    /// The place of the token that completed each of these.
+    places: Vec<usize, A>,
+    /// The place of the token that is met.
+    place: usize,
 }
 
 impl<A: Allocator + Copy> Paths<A> {
@@ -92,8 +97,8 @@ impl<A: Allocator + Copy> Paths<A> {
 
 impl<A: Allocator + Copy> Paths<A> {
     /// Goes on over a token.
-    fn take(&mut self, alloc: A, reading: Reading, token: &Token) -> Result<(), Lost>
-        ensures { OnOk result (KnowsOn reading token.now
+    fn take(&mut self, alloc: A, reception: Reception, token: &Token) -> Result<(), Lost>
+        ensures { OnOk result (KnowsOn reception token.now
             (record { here = record { parsers = self.old.here.parsers.items; tops = self.old.here.tops }; opens = self.old.opens.items; sent = self.old.sent.items })
             (record { here = record { parsers = self.new.here.parsers.items; tops = self.new.here.tops }; opens = self.new.opens.items; sent = self.new.sent.items })) }
     {
@@ -115,7 +120,7 @@ impl<A: Allocator + Copy> Paths<A> {
                 Ok(())
             }
             _ => {
-                let parsers = write(alloc, reading, &self.here, token, &mut self.sent)?;
+                let parsers = write(alloc, reception, &self.here, token, &mut self.sent)?;
                 self.here = Point {
                     parsers,
                     tops: self.here.tops.after(token),
@@ -127,9 +132,9 @@ impl<A: Allocator + Copy> Paths<A> {
 
     /// Ends all conditionals that are open.
     fn close(&mut self, alloc: A) -> Result<(), Lost>
-        ensures { OnOk result ((reading : Reading) (mode : Mode) (s : State) → AreData s → IsKnown reading
+        ensures { OnOk result ((reception : Reception) (mode : Mode) (s : State) → AreData s → IsKnown reception
             (record { here = record { parsers = self.old.here.parsers.items; tops = self.old.here.tops }; opens = self.old.opens.items; sent = self.old.sent.items }) mode s
-            → IsOutputCovered reading self.new.here.parsers.items self.new.sent.items s) }
+            → Leads reception self.new.here.parsers.items self.new.sent.items s.output) }
     {
         'opens: while !self.opens.is_empty() {
             self.leave(alloc)?;
@@ -138,15 +143,23 @@ impl<A: Allocator + Copy> Paths<A> {
     }
 
     /// Goes over all tokens of a capability.
-    fn pass(&mut self, alloc: A, reading: Reading, capability: &Capability<'_>) -> Result<(), Lost>
-        requires here { CoverMore (ground ∷ []) self.old.here.parsers.items }
+    fn pass(
+        &mut self,
+        alloc: A,
+        reception: Reception,
+        capability: &Capability<'_>,
+    ) -> Result<(), Lost>
+        requires here { CoverMore (outside ∷ []) self.old.here.parsers.items }
         requires tops { self.old.here.tops ≡ no_tops }
         requires opens { self.old.opens.items ≡ [] }
-        ensures { OnOk result (IsCover reading capability.now self.new.here.parsers.items self.new.sent.items) }
+        ensures { OnOk result (LeadsAll reception capability.now self.new.here.parsers.items self.new.sent.items) }
     {
         let mut tape = capability.tape();
         while let Some(token) = tape.token() {
-            self.take(alloc, reading, &token)?;
+            self.take(alloc, reception, &token)?;
+            let count = self.sent.len();
+            self.places.resize(count, self.place)?;
+            self.place = tape.at();
         }
         self.close(alloc)?;
         Ok(())
@@ -169,24 +182,76 @@ pub enum Outcome {
 pub struct Sent<A: Allocator> {
     /// The functions that a parser hands out.
     pub functions: Vec<Function, A>,
+    /// For each of these the place in the capability of the token that completes it, where it was first handed out.
+    pub places: Vec<usize, A>,
     /// The configurations in which it can end, if the paths were followed to their ends.
     pub ends: Vec<Configuration, A>,
     /// How far the paths were followed.
     pub outcome: Outcome,
 }
 
+/// Whether a text may end, by what is known of the bytes to come.
+fn ends_text(ahead: Ahead) -> bool
+    ensures { result ≡ ends_text ahead }
+{
+    match ahead {
+        Ahead::Closed => false,
+        _ => true,
+    }
+}
+
+/// Whether a receiver may be at the end of a text.
+fn can_end(receiver: &Receiver) -> bool
+    ensures { result ≡ can_end receiver.now.front receiver.now.ahead }
+{
+    match receiver.front {
+        Front::Mark(_) => false,
+        _ => ends_text(receiver.ahead),
+    }
+}
+
+/// Adds the parser of a receiver, if it may be at the end of a text.
+fn end<A: Allocator>(
+    ends: &mut Vec<Configuration, A>,
+    receiver: &Receiver,
+) -> Result<(), AllocError>
+    ensures { OnOk result (EndMore (receiver.now ∷ []) ends.old.items ends.new.items) }
+{
+    if can_end(receiver) {
+        ends.push(receiver.parser.duplicate())?;
+        Ok(())
+    } else {
+        Ok(())
+    }
+}
+
+/// The parsers at the end of a text.
+fn ends_of<A: Allocator>(
+    alloc: A,
+    receivers: &[Receiver],
+) -> Result<Vec<Configuration, A>, AllocError>
+    ensures { IfOk result (λ ends. EndMore receivers.now [] ends.items) }
+{
+    let mut ends = Vec::new(alloc);
+    for receiver in receivers {
+        end(&mut ends, receiver)?;
+    }
+    Ok(ends)
+}
+
 /// The functions that a parser hands out for what a capability writes, and the configurations in which it can end: for all
 /// parameters and variables, on all paths, unless the outcome says that they were not followed to their ends.
 pub fn functions_of<A: Allocator + Copy>(
     alloc: A,
-    reading: Reading,
+    reception: Reception,
     capability: &Capability<'_>,
 ) -> Result<Sent<A>, AllocError>
+    ensures places { IfOk result (λ sent. vec_len sent.places ≡ vec_len sent.functions) }
     ensures cover { IfOk result (λ sent. sent.outcome ≡ outcome.Whole
-        → IsCover reading capability.now sent.ends.items sent.functions.items) }
+        → IsCover reception capability.now sent.ends.items sent.functions.items) }
 {
     let mut parsers = Vec::new(alloc);
-    parsers.push(Configuration::new())?;
+    parsers.push(Receiver::new())?;
     let mut paths = Paths {
         here: Point {
             parsers,
@@ -194,16 +259,23 @@ pub fn functions_of<A: Allocator + Copy>(
         },
         opens: Vec::new(alloc),
         sent: Vec::new(alloc),
+        places: Vec::new(alloc),
+        place: 0,
     };
-    let outcome = match paths.pass(alloc, reading, capability) {
+    let outcome = match paths.pass(alloc, reception, capability) {
         Ok(()) => Outcome::Whole,
         Err(Lost::ComputedByte) => Outcome::ComputedByte,
         Err(Lost::NotTried) => Outcome::NotTried,
         Err(Lost::Memory(refused)) => return Err(refused),
     };
+    let ends = ends_of(alloc, &paths.here.parsers)?;
+    let functions = paths.sent;
+    let mut places = paths.places;
+    places.resize(functions.len(), paths.place)?;
     Ok(Sent {
-        functions: paths.sent,
-        ends: paths.here.parsers,
+        functions,
+        places,
+        ends,
         outcome,
     })
 }

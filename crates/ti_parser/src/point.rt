@@ -1,14 +1,13 @@
 //! What is known of the paths that come to a place, and of those that wait in open conditionals.
 
 ghost use Rattle.std.specs.Prelude.{List, ◌≡◌, ◌++◌, ◌∷◌, [], IfOk, OnOk};
-ghost use Rattle.ti_expand.specs.declared.values.Value.{Value};
-ghost use Rattle.ti_parser.specs.Covers.{IsCovered};
+ghost use Rattle.ti_expand.specs.State.{State};
+ghost use Rattle.ti_parser.specs.inner.Receivers.{IsAmong, Moment};
 ghost use Rattle.ti_parser.specs.Tops.{AreTops, no_tops};
-ghost use Rattle.ti_parser.specs.declared.configuration.Configuration.{Configuration};
 ghost use Rattle.ti_parser.specs.inner.Paths.{PointMore};
 
-use crate::configuration::Configuration;
 use crate::parsers::{Lost, unite};
+use crate::receiver::Receiver;
 use crate::tops::Tops;
 use std::alloc::{AllocError, Allocator};
 use std::marker::Model;
@@ -17,7 +16,7 @@ use std::marker::Model;
 #[derive(Drop)]
 pub(crate) struct Point<A: Allocator> {
     /// The parsers that they lead to.
-    pub parsers: Vec<Configuration, A>,
+    pub parsers: Vec<Receiver, A>,
     /// Numbers on top of their stacks.
     pub tops: Tops,
 }
@@ -55,10 +54,10 @@ pub(crate) fn nowhere<A: Allocator>(alloc: A) -> Point<A>
 
 /// The numbers that are known on the paths of both.
 fn joined_tops<A: Allocator>(left: &Point<A>, right: &Point<A>) -> Tops
-    ensures left { (c : Configuration) (stack : List Value) → IsCovered left.now.parsers.items c
-        → AreTops left.now.tops stack → AreTops result stack }
-    ensures right { (c : Configuration) (stack : List Value) → IsCovered right.now.parsers.items c
-        → AreTops right.now.tops stack → AreTops result stack }
+    ensures left { (m : Moment) (s : State) → IsAmong left.now.parsers.items m
+        → AreTops left.now.tops s → AreTops result s }
+    ensures right { (m : Moment) (s : State) → IsAmong right.now.parsers.items m
+        → AreTops right.now.tops s → AreTops result s }
 {
     if left.parsers.is_empty() {
         return right.tops;

@@ -2,13 +2,14 @@
 
 ghost use Rattle.std.specs.Prelude.{◌≡◌, ◌≢◌, ◌≤◌, ◌&&◌, not, ℕ, ℤ, List, IfOk, OnOk};
 ghost use Rattle.ti_expand.specs.Printed.{least_count, print_of_number};
-ghost use Rattle.ti_parser.specs.Covers.{IsOf, Lead, SendMore};
+ghost use Rattle.ti_parser.specs.Covers.{IsOf, SendMore};
+ghost use Rattle.ti_parser.specs.inner.Receivers.{Lead};
 ghost use Rattle.ti_parser.specs.inner.Forms.{AreBlanks, data_bytes, digit_bytes, has_zeros, is_filled, least_of, plus_of, sign_of};
 
-use crate::configuration::Configuration;
 use crate::function::Function;
 use crate::parsers::{Digits, Lost, follow, step_most, step_on, unite};
-use crate::reading::Reading;
+use crate::reading::Reception;
+use crate::receiver::Receiver;
 use std::alloc::Allocator;
 use ti_cap::{Conversion, Format};
 use ti_expand::format_number;
@@ -103,17 +104,17 @@ fn plus(format: &Format) -> &'static [u8]
 /// The parsers after spaces, if there may be any.
 fn fill<A: Allocator + Copy>(
     alloc: A,
-    reading: Reading,
-    here: Vec<Configuration, A>,
+    reception: Reception,
+    here: Vec<Receiver, A>,
     may: bool,
     sent: &mut Vec<Function, A>,
-) -> Result<Vec<Configuration, A>, Lost>
+) -> Result<Vec<Receiver, A>, Lost>
     ensures kept { OnOk result (SendMore sent.old.items sent.new.items) }
     ensures leads { IfOk result (λ after. (text : List ℕ) → AreBlanks may text
-        → Lead reading text here.items sent.new.items after.items) }
+        → Lead reception text here.items sent.new.items after.items) }
 {
     if may {
-        let after = step_on(alloc, reading, here, b" ", sent)?;
+        let after = step_on(alloc, reception, here, b" ", sent)?;
         Ok(after)
     } else {
         Ok(here)
@@ -123,24 +124,24 @@ fn fill<A: Allocator + Copy>(
 /// The parsers after each sign that a number may have.
 fn sign<A: Allocator + Copy>(
     alloc: A,
-    reading: Reading,
-    here: &[Configuration],
+    reception: Reception,
+    here: &[Receiver],
     format: &Format,
     sent: &mut Vec<Function, A>,
-) -> Result<Vec<Configuration, A>, Lost>
+) -> Result<Vec<Receiver, A>, Lost>
     ensures kept { OnOk result (SendMore sent.old.items sent.new.items) }
-    ensures leads { IfOk result (λ after. (n : ℤ) → Lead reading
+    ensures leads { IfOk result (λ after. (n : ℤ) → Lead reception
         (sign_of format.now.conversion format.now n) here.now sent.new.items after.items) }
 {
     match format.conversion {
         Conversion::Signed => {
-            let positive = follow(alloc, reading, here, plus(format), sent)?;
-            let negative = follow(alloc, reading, here, b"-", sent)?;
+            let positive = follow(alloc, reception, here, plus(format), sent)?;
+            let negative = follow(alloc, reception, here, b"-", sent)?;
             let both = unite(alloc, positive, &negative)?;
             Ok(both)
         }
         _ => {
-            let after = follow(alloc, reading, here, b"", sent)?;
+            let after = follow(alloc, reception, here, b"", sent)?;
             Ok(after)
         }
     }
@@ -161,14 +162,14 @@ const MOST_PRINTED: usize = 512;
 /// The parsers after a number that is known.
 pub(crate) fn print_known<A: Allocator + Copy>(
     alloc: A,
-    reading: Reading,
-    here: &[Configuration],
+    reception: Reception,
+    here: &[Receiver],
     known: KnownNumber,
     sent: &mut Vec<Function, A>,
-) -> Result<Vec<Configuration, A>, Lost>
+) -> Result<Vec<Receiver, A>, Lost>
     requires { known.format.conversion ≢ Conversion.Text }
     ensures kept { OnOk result (SendMore sent.old.items sent.new.items) }
-    ensures leads { IfOk result (λ after. Lead reading
+    ensures leads { IfOk result (λ after. Lead reception
         (print_of_number known.format known.number) here.now sent.new.items after.items) }
 {
     if known.format.size(0) > MOST_PRINTED as u64 {
@@ -176,7 +177,7 @@ pub(crate) fn print_known<A: Allocator + Copy>(
     }
     let mut out = [0; MOST_PRINTED];
     let count = format_number(&known.format, known.number, &mut out);
-    let after = follow(alloc, reading, here, &out[..count], sent)?;
+    let after = follow(alloc, reception, here, &out[..count], sent)?;
     Ok(after)
 }
 
@@ -188,45 +189,46 @@ fn data_bytes() -> &'static [u8]
 }
 
 /// Whether a byte of data is no text for some parser.
-fn is_before_text(here: &[Configuration]) -> bool {
-    here.iter().any(|parser| parser.state.is_header() || parser.state.is_named_by_text())
+fn is_before_text(here: &[Receiver]) -> bool {
+    here.iter().any(|parser| parser.parser.state.is_header()
+        || parser.parser.state.is_named_by_text())
 }
 
 /// The parsers after a text that is not known.
 pub(crate) fn print_text<A: Allocator + Copy>(
     alloc: A,
-    reading: Reading,
-    here: &[Configuration],
+    reception: Reception,
+    here: &[Receiver],
     sent: &mut Vec<Function, A>,
-) -> Result<Vec<Configuration, A>, Lost>
+) -> Result<Vec<Receiver, A>, Lost>
     ensures kept { OnOk result (SendMore sent.old.items sent.new.items) }
     ensures leads { IfOk result (λ after. (text : List ℕ) → IsOf data_bytes text
-        → Lead reading text here.now sent.new.items after.items) }
+        → Lead reception text here.now sent.new.items after.items) }
 {
     if is_before_text(here) {
         return Err(Lost::ComputedByte);
     }
-    let start = follow(alloc, reading, here, b"", sent)?;
-    let after = step_on(alloc, reading, start, data_bytes(), sent)?;
+    let start = follow(alloc, reception, here, b"", sent)?;
+    let after = step_on(alloc, reception, start, data_bytes(), sent)?;
     Ok(after)
 }
 
 /// Whether a parser is within a function, so that a letter of a number may end it.
-fn is_within(here: &[Configuration]) -> bool {
-    here.iter().any(|parser| parser.state.is_header())
+fn is_within(here: &[Receiver]) -> bool {
+    here.iter().any(|parser| parser.parser.state.is_header())
 }
 
 /// The parsers after a number that is not known.
 pub(crate) fn print_number<A: Allocator + Copy>(
     alloc: A,
-    reading: Reading,
-    here: &[Configuration],
+    reception: Reception,
+    here: &[Receiver],
     format: &Format,
     sent: &mut Vec<Function, A>,
-) -> Result<Vec<Configuration, A>, Lost>
+) -> Result<Vec<Receiver, A>, Lost>
     requires { format.now.conversion ≢ Conversion.Text }
     ensures kept { OnOk result (SendMore sent.old.items sent.new.items) }
-    ensures leads { IfOk result (λ after. (n : ℤ) → Lead reading
+    ensures leads { IfOk result (λ after. (n : ℤ) → Lead reception
         (print_of_number format.now n) here.now sent.new.items after.items) }
 {
     let is_hex = matches!(
@@ -236,14 +238,14 @@ pub(crate) fn print_number<A: Allocator + Copy>(
     if is_hex && is_within(here) {
         return Err(Lost::ComputedByte);
     }
-    let start = follow(alloc, reading, here, b"", sent)?;
-    let front = fill(alloc, reading, start, is_filled_before(format), sent)?;
-    let signed = sign(alloc, reading, &front, format, sent)?;
+    let start = follow(alloc, reception, here, b"", sent)?;
+    let front = fill(alloc, reception, start, is_filled_before(format), sent)?;
+    let signed = sign(alloc, reception, &front, format, sent)?;
     let digits = Digits {
         bytes: digit_bytes(format.conversion, format.alternate),
         least: few_digits(format),
     };
-    let number = step_most(alloc, reading, signed, digits, sent)?;
-    let after = fill(alloc, reading, number, is_filled_after(format), sent)?;
+    let number = step_most(alloc, reception, signed, digits, sent)?;
+    let after = fill(alloc, reception, number, is_filled_after(format), sent)?;
     Ok(after)
 }

@@ -1,4 +1,6 @@
-//! How a terminal may read bytes above 7F.
+//! How a terminal may read bytes above 7F, and what it receives.
+
+use crate::padding::Marks;
 
 /// What bytes from 80 on are.
 #[derive(Clone, Copy, Debug, PartialEq, Eq)]
@@ -27,4 +29,13 @@ pub struct Reading {
     pub coding: Coding,
     /// What controls do within a function.
     pub within: Within,
+}
+
+/// How a terminal receives what a capability is expanded to.
+#[derive(Clone, Copy, Debug, PartialEq, Eq)]
+pub struct Reception {
+    /// How it reads bytes.
+    pub reading: Reading,
+    /// How padding marks were taken out before.
+    pub marks: Marks,
 }

@@ -1,19 +1,22 @@
 //! The numbers on top of a stack that are known, whatever the parameters are.
 
 ghost use Rattle.std.specs.Prelude.{◌≡◌, List};
+ghost use Rattle.ti_expand.specs.State.{State};
 ghost use Rattle.ti_expand.specs.declared.values.Value.{Value};
-ghost use Rattle.ti_parser.specs.Tops.{AreTops, IsTop, combined, computed, negated, no_tops, popped, pushed, tops_after, turned};
+ghost use Rattle.ti_parser.specs.Tops.{AreTops, IsTop, combined, computed, negated, no_tops, popped, pushed, stored, tops_after, turned};
 
+use crate::names::Names;
 use ti_cap::{Op, Token};
 use ti_expand::{apply, complement, logical_not};
 
-/// The numbers in the first four places of a stack, the top first, as far as they are known.
+/// The numbers in the first four places of a stack, the top first, and in variables, as far as they are known.
 #[derive(Clone, Copy)]
 pub(crate) struct Tops {
     first: Option<i32>,
     second: Option<i32>,
     third: Option<i32>,
     fourth: Option<i32>,
+    names: Names,
 }
 
 /// 1 for 0, else 0.
@@ -67,6 +70,7 @@ impl Tops {
             second: None,
             third: None,
             fourth: None,
+            names: Names::none(),
         }
     }
 
@@ -86,6 +90,7 @@ impl Tops {
             second: self.third,
             third: self.fourth,
             fourth: None,
+            names: self.names,
         }
     }
 
@@ -98,6 +103,7 @@ impl Tops {
             second: self.first,
             third: self.second,
             fourth: self.third,
+            names: self.names,
         }
     }
 
@@ -115,14 +121,25 @@ impl Tops {
         }
     }
 
+    /// After the top is stored in a variable.
+    fn kept(self, letter: u8) -> Tops
+        ensures { result ≡ record (popped self) { names = stored letter self.first self.names } }
+    {
+        let mut tops = self.popped();
+        tops.names = self.names.stored(letter, self.first);
+        tops
+    }
+
     /// After a token.
     pub(crate) fn after(self, token: &Token) -> Tops
         ensures { result ≡ tops_after token.now self }
     {
         match token {
             Token::Constant(number) => self.pushed(Some(*number)),
-            Token::Param(_) | Token::Load(_) => self.pushed(None),
-            Token::Store(_) | Token::Char | Token::Print(_) | Token::CondThen => self.popped(),
+            Token::Param(_) => self.pushed(None),
+            Token::Load(letter) => self.pushed(self.names.number(*letter)),
+            Token::Store(letter) => self.kept(*letter),
+            Token::Char | Token::Print(_) | Token::CondThen => self.popped(),
             Token::Length => self.popped().pushed(None),
             Token::Compute(op) => self.computed(*op),
             _ => self,
@@ -131,14 +148,15 @@ impl Tops {
 
     /// The numbers that are known on all paths of both.
     pub(crate) fn joined(self, other: Tops) -> Tops
-        ensures left { (stack : List Value) → AreTops self stack → AreTops result stack }
-        ensures right { (stack : List Value) → AreTops other stack → AreTops result stack }
+        ensures left { (s : State) → AreTops self s → AreTops result s }
+        ensures right { (s : State) → AreTops other s → AreTops result s }
     {
         Tops {
             first: agreed(self.first, other.first),
             second: agreed(self.second, other.second),
             third: agreed(self.third, other.third),
             fourth: agreed(self.fourth, other.fourth),
+            names: self.names.joined(other.names),
         }
     }
 }

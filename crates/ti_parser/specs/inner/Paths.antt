@@ -1,10 +1,22 @@
 -- What the tokens of a conditional do to what waits in it.
-use Rattle.std.specs.Prelude.{◌≡◌, List, [], ◌∷◌, ◌++◌}
+use Rattle.std.specs.Prelude.{◌≡◌, ℕ, ℤ, List, [], ◌∷◌, ◌++◌}
+use Rattle.std.specs.List.{AllByRecursion}
+use Rattle.ti_cap.specs.declared.language.Token.{Token}
+use Rattle.ti_cap.specs.Path.{IsPath}
+use Rattle.ti_cap.specs.Spelling.{Writes}
+use Rattle.ti_cap.specs.Tree.{Sequence}
+use Rattle.ti_expand.specs.Sound.{AreVariables}
+use Rattle.ti_expand.specs.StackHeight.{state_after}
+use Rattle.ti_expand.specs.State.{State, start}
 use Rattle.ti_expand.specs.declared.values.Value.{Value}
+use Rattle.ti_parser.specs.inner.Receivers.{IsAmong, Moment}
 use Rattle.ti_parser.specs.Covers.{IsCovered}
-use Rattle.ti_parser.specs.Paths.{Point, Waiting}
-use Rattle.ti_parser.specs.Tops.{AreTops}
+use Rattle.ti_parser.specs.Paths.{IsData, Leads, Point, Waiting}
 use Rattle.ti_parser.specs.declared.configuration.Configuration.{Configuration}
+use Rattle.ti_parser.specs.declared.function.Function.{Function}
+use Rattle.ti_parser.specs.declared.reading.Reception.{Reception}
+use Rattle.ti_parser.specs.declared.receiver.Receiver.{Receiver}
+use Rattle.ti_parser.specs.Tops.{AreTops}
 
 -- what waits in the innermost conditional is another, and the rest stays
 pub record IsChanged (old new : List Waiting) : Type 0 where
@@ -16,7 +28,7 @@ pub record IsChanged (old new : List Waiting) : Type 0 where
 
 -- what is in the first point is in the second
 abbrev pub PointMore : Point → Point → Type 0
-PointMore few many = (c : Configuration) (stack : List Value) → IsCovered few.parsers c → AreTops few.tops stack → IsCovered many.parsers c × AreTops many.tops stack
+PointMore few many = (m : Moment) (s : State) → IsAmong few.parsers m → AreTops few.tops s → IsAmong many.parsers m × AreTops many.tops s
 
 -- after `%t` the paths that are here wait too
 pub record IsTested (here : Point) (old new : List Waiting) : Type 0 where
@@ -39,3 +51,13 @@ pub record IsLeft (here : Point) (old : List Waiting) (now : Point) (new : List 
   pub ran : PointMore here now
   pub failed : PointMore inner.failed now
   pub done : PointMore inner.done now
+
+-- the output of each path leads to one of these parsers
+abbrev pub LeadsAll : Reception → List ℕ → List Receiver → List Function → Type 0
+LeadsAll r bytes parsers sent = (tree : Sequence) (path : List Token) → Writes tree bytes → IsPath tree path
+    → (variables : List ℤ) (parameters : List Value) → AreVariables variables → AllByRecursion IsData parameters → Leads r parsers sent (state_after path (start variables parameters)).output
+
+-- the parsers of these receivers that may be at the end of a text, and those before, are among the second
+abbrev pub EndMore : List Receiver → List Configuration → List Configuration → Type 0
+EndMore receivers before ends = ((c : Configuration) → IsCovered before c → IsCovered ends c)
+    × ((m : Moment) → m.rest ≡ [] → IsAmong receivers m → IsCovered ends m.parser)

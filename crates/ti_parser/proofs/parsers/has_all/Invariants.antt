@@ -1,5 +1,5 @@
 use Rattle.std.proofs.Common.{take}
-use Rattle.ti_parser.specs.Covers.{CoverMore}
+use Rattle.ti_parser.specs.inner.Receivers.{CoverMore}
 use Rattle.ti_parser.proofs.parsers.has_all.Given as goal
 
 abbrev pub invariant-loop-other : goal.invariant-loop-other

@@ -1,4 +1,5 @@
-use Rattle.ti_parser.specs.Covers.{CoverMore, SendMore}
+use Rattle.ti_parser.specs.Covers.{SendMore}
+use Rattle.ti_parser.specs.inner.Receivers.{CoverMore}
 use Rattle.ti_parser.proofs.parsers.step_on.Given as goal
 
 abbrev pub invariant-loop : goal.invariant-loop

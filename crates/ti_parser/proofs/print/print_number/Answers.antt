@@ -1,8 +1,9 @@
 use Rattle.std.proofs.Common.{Bool, List, ℕ, [], sym, subst, arith}
 use Rattle.ti_expand.specs.Printed.{print_of_number}
-use Rattle.ti_parser.specs.Covers.{IsOf, Lead}
+use Rattle.ti_parser.specs.Covers.{IsOf}
+use Rattle.ti_parser.specs.inner.Receivers.{Lead}
 use Rattle.ti_parser.specs.inner.Forms.{AreBlanks, sign_of}
-use Rattle.ti_parser.specs.declared.configuration.Configuration.{Configuration}
+use Rattle.ti_parser.specs.declared.receiver.Receiver.{Receiver}
 use Rattle.ti_parser.proofs.FormLemmas.{NumberParts, number_parts}
 use Rattle.ti_parser.proofs.LeadLemmas.{lead_then}
 use Rattle.ti_parser.proofs.PrintLemmas.{lead_number}
@@ -10,7 +11,7 @@ use Rattle.ti_parser.proofs.print.print_number.Goals as goal
 
 pub returns-clause-leads : goal.returns-clause-leads
 returns-clause-leads g c = λ n.
-    let r = c.args.reading in
+    let r = c.args.reception in
     let f = c.args.format.now in
     let p : NumberParts f.conversion f n (print_of_number f n) = number_parts f.conversion f n c.requires in
     let s = c.fill.new.sent.items in
@@ -20,7 +21,7 @@ returns-clause-leads g c = λ n.
     let front = c.in_ok-front.front.items in
     let signed = c.in_ok-signed.signed.items in
     let P : Bool → Type 0 = λ x. AreBlanks x p.before in
-    let Q : List Configuration → Type 0 = λ x. Lead r (sign_of f.conversion f n) x t signed in
+    let Q : List Receiver → Type 0 = λ x. Lead r (sign_of f.conversion f n) x t signed in
     let R : List ℕ → Type 0 = λ x. IsOf x p.digits in
     let S : Bool → Type 0 = λ x. AreBlanks x p.after in
     lead_then r [] (print_of_number f n) c.args.here.now c.in_ok-start.start.items c.in_ok-after.after.items c.follow.new.sent.items v c.in_ok-start.ensures.leads

@@ -1,7 +1,7 @@
 use Rattle.std.proofs.Common.{◌∙◌, List, ap, refl, sym, subst}
 use Rattle.ti_cap.specs.declared.language.Token.{Token}
 use Rattle.ti_parser.specs.Paths.{Known, KnowsOn, Point}
-use Rattle.ti_parser.specs.declared.configuration.Configuration.{Configuration}
+use Rattle.ti_parser.specs.declared.receiver.Receiver.{Receiver}
 use Rattle.ti_parser.specs.declared.tops.Tops.{Tops}
 use Rattle.ti_parser.proofs.KnowsLemmas.{knows_close, knows_else, knows_then, knows_written, others_stay}
 use Rattle.ti_parser.proofs.paths.Paths.take.Goals as goal
@@ -12,11 +12,11 @@ returns-in_ok-test-in-CondThen g c =
     let new = c.test.new.self in
     let before : Known = record { here = record { parsers = old.here.parsers.items; tops = old.here.tops }; opens = old.opens.items; sent = old.sent.items } in
     let after : Known = record { here = record { parsers = new.here.parsers.items; tops = new.here.tops }; opens = new.opens.items; sent = new.sent.items } in
-    let P : Token → Type 0 = λ x. KnowsOn c.args.reading x before after in
-    let with_parsers : List Configuration → Point = λ x. record { parsers = x; tops = new.here.tops } in
+    let P : Token → Type 0 = λ x. KnowsOn c.args.reception x before after in
+    let with_parsers : List Receiver → Point = λ x. record { parsers = x; tops = new.here.tops } in
     let with_tops : Tops → Point = λ x. record { parsers = old.here.parsers.items; tops = x } in
     subst P (sym c.in-CondThen.is)
-    (knows_then c.args.reading before after c.in_ok-test-in-CondThen.ensures.opens
+    (knows_then c.args.reception before after c.in_ok-test-in-CondThen.ensures.opens
     (ap with_parsers c.in_ok-test-in-CondThen.ensures.parsers ∙ ap with_tops c.in_ok-test-in-CondThen.ensures.tops) c.in_ok-test-in-CondThen.ensures.sent)
 
 pub returns-in_ok-turn-in-CondElse : goal.returns-in_ok-turn-in-CondElse
@@ -25,8 +25,8 @@ returns-in_ok-turn-in-CondElse g c =
     let new = c.turn.new.self in
     let before : Known = record { here = record { parsers = old.here.parsers.items; tops = old.here.tops }; opens = old.opens.items; sent = old.sent.items } in
     let after : Known = record { here = record { parsers = new.here.parsers.items; tops = new.here.tops }; opens = new.opens.items; sent = new.sent.items } in
-    let P : Token → Type 0 = λ x. KnowsOn c.args.reading x before after in
-    subst P (sym c.in-CondElse.is) (knows_else c.args.reading before after c.in_ok-turn-in-CondElse.ensures.opens c.in_ok-turn-in-CondElse.ensures.sent)
+    let P : Token → Type 0 = λ x. KnowsOn c.args.reception x before after in
+    subst P (sym c.in-CondElse.is) (knows_else c.args.reception before after c.in_ok-turn-in-CondElse.ensures.opens c.in_ok-turn-in-CondElse.ensures.sent)
 
 pub returns-in_ok-leave-in-CondClose : goal.returns-in_ok-leave-in-CondClose
 returns-in_ok-leave-in-CondClose g c =
@@ -34,8 +34,8 @@ returns-in_ok-leave-in-CondClose g c =
     let new = c.leave.new.self in
     let before : Known = record { here = record { parsers = old.here.parsers.items; tops = old.here.tops }; opens = old.opens.items; sent = old.sent.items } in
     let after : Known = record { here = record { parsers = new.here.parsers.items; tops = new.here.tops }; opens = new.opens.items; sent = new.sent.items } in
-    let P : Token → Type 0 = λ x. KnowsOn c.args.reading x before after in
-    subst P (sym c.in-CondClose.is) (knows_close c.args.reading before after c.in_ok-leave-in-CondClose.ensures.opens c.in_ok-leave-in-CondClose.ensures.sent)
+    let P : Token → Type 0 = λ x. KnowsOn c.args.reception x before after in
+    subst P (sym c.in-CondClose.is) (knows_close c.args.reception before after c.in_ok-leave-in-CondClose.ensures.opens c.in_ok-leave-in-CondClose.ensures.sent)
 
 pub returns-in_ok-parsers-in_default : goal.returns-in_ok-parsers-in_default
 returns-in_ok-parsers-in_default g c =
@@ -43,6 +43,6 @@ returns-in_ok-parsers-in_default g c =
     let parsers = c.in_ok-parsers-in_default.parsers.items in
     let before : Known = record { here = record { parsers = old.here.parsers.items; tops = old.here.tops }; opens = old.opens.items; sent = old.sent.items } in
     let after : Known = record { here = record { parsers = parsers; tops = c.after.result }; opens = old.opens.items; sent = c.write.new.sent.items } in
-    knows_written c.args.reading c.args.token.now before after
+    knows_written c.args.reception c.args.token.now before after
     (others_stay c.args.token.now c.in_default.not-CondOpen c.in_default.not-CondThen c.in_default.not-CondElse c.in_default.not-CondClose)
     refl c.in_ok-parsers-in_default.ensures.kept c.in_ok-parsers-in_default.ensures.leads c.after.ensures
