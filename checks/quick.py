@@ -28,8 +28,7 @@ from checks.machine import DIST, PROVED_ARCHIVE, PROVED_PROGRAM, ROOT, is_there,
 OF_PROGRAM = [
     "rust/check", "page/check", "dist/qemu", "completions/check", "model/compare 500", "docs/commands", "c/installed", "c/check",
     "c/package", "model/names", "model/terminals", "model/paths", "model/tic", "model/tput", "model/upstream", "dist/check", "python/check",
-    "c/header", "program/check", "program/paths",
-    "program/hostile", "program/tasks", "program/remedies",
+    "c/header", "program/check", "program/paths", "program/hostile", "program/tasks", "program/remedies", "program/sources", "clients/run", "compat/check", "program/oracle",
 ]
 WHOLE = "./gate is the whole test"
 # What cargo compiles for longer than half a minute.
@@ -153,11 +152,17 @@ def prove_changed(quick: Quick, crate: str, kit: Path) -> bool:
 
 
 def tries_of(crates: list[str]) -> list[list[str]]:
-    """The calls that try the wrong bodies of crates: if there is a record of those that were refused, only those of which it is out
-    of date."""
+    """The calls that have the prover try the wrong bodies of crates: if there is a record of those that were refused, only those of which
+    it is out of date."""
     if crates and (ROOT / "edits/record.tsv").exists():
-        return [["edits/try", "--changed"]]
-    return [["edits/try", crate] for crate in crates]
+        return [["edits/try", "--judge", "prover", "--changed"]]
+    return [["edits/try", "--judge", "prover", crate] for crate in crates]
+
+
+def try_by_rows(quick: Quick, crates: list[str]) -> None:
+    """Tries the wrong bodies of crates by rows, which needs no `rt`."""
+    if crates and is_there("cargo") and not quick.run("edits/try by rows", [str(ROOT / "edits/try"), "--judge", "rows", *crates]):
+        quick.end()
 
 
 def look_at_changes(quick: Quick, commit: str) -> None:
@@ -167,9 +172,10 @@ def look_at_changes(quick: Quick, commit: str) -> None:
     tried = crates_to_try(changes, changed)
     if ("crates.txt",) in changes:
         quick.left_out.append("the crates whose lines in crates.txt were changed")
+    try_by_rows(quick, tried)
     if not is_there("rt"):
         if changed or tried:
-            quick.left_out.append(f"what was changed of {', '.join(changed or tried)}, since there is no rt on the path")
+            quick.left_out.append(f"the proof of {', '.join(changed or tried)}, since there is no rt on the path")
         return
     kit = kit_folder()
     if not all(prove_changed(quick, crate, kit) for crate in changed):

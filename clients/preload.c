@@ -1,5 +1,5 @@
-/* Stands in for the calls of ncurses' libtinfo by which programs expand capabilities: with this in LD_PRELOAD they expand by
- * libti. Where TI_CALLS names a file, the number of calls is appended to it at the end. */
+/* Stands in for the calls of ncurses' libtinfo by which programs expand and pad capabilities: with this in LD_PRELOAD they do both
+ * by libti. If TI_CALLS names a file, each process appends a line to it at its first call. */
 #include <stdarg.h>
 #include <stdint.h>
 #include <stdio.h>
@@ -10,11 +10,23 @@
 
 enum { PARAMETERS = 9, FEW_BYTES = 256 };
 
+/* ncurses' SCREEN. */
+struct screen;
+
 char *tparm(const char *capability, ...);
 char *tiparm(const char *capability, ...);
 char *_nc_tiparm(int expected, const char *capability, ...);
 char *tgoto(const char *capability, int column, int row);
 int tputs(const char *text, int lines, int (*put)(int));
+int tputs_sp(struct screen *screen, const char *text, int lines, int (*put)(struct screen *, int));
+
+/* What libtinfo has: all of it is weak, since this is also loaded into programs without libtinfo. */
+extern struct screen *SP __attribute__((weak));
+extern short ospeed __attribute__((weak));
+extern char PC __attribute__((weak));
+int tigetflag(const char *name) __attribute__((weak));
+int tigetnum(const char *name) __attribute__((weak));
+char *tigetstr(const char *name) __attribute__((weak));
 
 /* Bytes of the heap that grow as they have to. */
 typedef struct {
@@ -24,14 +36,15 @@ typedef struct {
 
 static ti_vars variables;
 static buffer output, padded;
-static unsigned long calls;
 
-__attribute__((destructor)) static void tell_calls(void) {
-    const char *name = getenv("TI_CALLS");
+static void tell_call(void) {
+    static int is_told;
+    const char *name = is_told ? NULL : getenv("TI_CALLS");
     FILE *file = name == NULL ? NULL : fopen(name, "a");
+    is_told = 1;
     if (file == NULL)
         return;
-    fprintf(file, "%lu\n", calls);
+    fputs("called\n", file);
     fclose(file);
 }
 
@@ -83,7 +96,7 @@ static uint32_t expand_into(const char *capability, const ti_parameter *paramete
 static char *expand(const char *capability, const ti_parameter *parameters) {
     ti_run run;
     uint32_t fault;
-    calls++;
+    tell_call();
     /* ncurses starts the variables a to z anew in each call. */
     memset(variables.values, 0, 26 * sizeof variables.values[0]);
     if (!make_room(&output, FEW_BYTES))
@@ -164,17 +177,63 @@ char *tgoto(const char *capability, int column, int row) {
     return expand(capability, parameters);
 }
 
-/* At the rate 0 padding vanishes: what time a terminal needs is left to its flow control. */
-int tputs(const char *text, int lines, int (*put)(int)) {
-    ti_padding padding = {0, 1, 0, 0};
+/* ---- padding */
+
+/* The bytes per second of the line. ncurses counts nine bits for a byte. */
+static uint32_t line_rate(void) {
+    static const uint32_t bauds[] = {0, 50, 75, 110, 134, 150, 200, 300, 600, 1200, 1800, 2400, 4800, 9600, 19200, 38400};
+    return &ospeed != NULL && ospeed > 0 && (size_t)ospeed < sizeof bauds / sizeof bauds[0] ? bauds[ospeed] / 9 : 0;
+}
+
+static int has_flag(const char *name) {
+    return tigetflag != NULL && tigetflag(name) > 0;
+}
+
+static int is_text(const char *text, const char *name) {
+    return tigetstr != NULL && text == tigetstr(name);
+}
+
+/* How ncurses pads a text. Programs count the pad bytes too, to choose the cheapest motion, so the rate is that of the line. A
+ * terminal without a pad byte takes none. Of a screen all marks are padded in the bell and the flash; in other texts those
+ * without a / need a line without flow control, which is as fast as pb says. Without a screen all marks are padded. */
+static ti_padding padding_of(const struct screen *screen, const char *text, int lines) {
+    ti_padding padding = ti_padding_at(has_flag("npc") ? 0 : line_rate());
+    padding.pad = &PC != NULL ? (uint8_t)PC : 0;
+    padding.affected_lines = lines < 0 ? 0 : lines > TI_MOST_AFFECTED_LINES ? TI_MOST_AFFECTED_LINES : (uint32_t)lines;
+    if (screen != NULL && !is_text(text, "bel") && !is_text(text, "flash")) {
+        int least = tigetnum != NULL ? tigetnum("pb") : -1;
+        padding.xon = has_flag("xon") || least == 0 || (least > 0 && padding.rate * 9 < (uint32_t)least);
+    }
+    return padding;
+}
+
+/* Pads a text, and returns how many bytes are to be sent, or -1. tigetstr returns (char *)-1 for the name of no string, and
+ * programs such as clear(1) hand that to tputs. */
+static long pad(const struct screen *screen, const char *text, int lines) {
+    ti_padding padding;
     size_t length;
-    (void)lines;
-    calls++;
-    if (text == NULL || !make_room(&padded, strlen(text) + 1))
+    uint32_t fault;
+    tell_call();
+    if (text == NULL || text == (const char *)-1)
         return -1;
-    if (ti_pad((const unsigned char *)text, strlen(text), &padding, padded.bytes, padded.room, &length) != TI_DONE)
-        return -1;
-    for (size_t i = 0; i < length; i++)
+    padding = padding_of(screen, text, lines);
+    fault = ti_pad((const unsigned char *)text, strlen(text), &padding, padded.bytes, padded.room, &length);
+    if (fault == TI_OUT_TOO_SMALL && make_room(&padded, length))
+        fault = ti_pad((const unsigned char *)text, strlen(text), &padding, padded.bytes, padded.room, &length);
+    return fault == TI_DONE ? (long)length : -1;
+}
+
+int tputs(const char *text, int lines, int (*put)(int)) {
+    long length = pad(&SP != NULL ? SP : NULL, text, lines);
+    for (long i = 0; i < length; i++)
         put(padded.bytes[i]);
-    return 0;
+    return length < 0 ? -1 : 0;
+}
+
+/* What libncurses calls, and what libtinfo calls of its own accord. */
+int tputs_sp(struct screen *screen, const char *text, int lines, int (*put)(struct screen *, int)) {
+    long length = pad(screen, text, lines);
+    for (long i = 0; i < length; i++)
+        put(screen, padded.bytes[i]);
+    return length < 0 ? -1 : 0;
 }
