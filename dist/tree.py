@@ -28,7 +28,7 @@ SOURCES = {
 OF_PAGE = ["page/engine/Cargo.toml", "page/entries/t", "rust/library/Cargo.toml", "rust/make", "rust/targets.py", "examples/linux"]
 SOURCES |= {name: "\n" for name in OF_PAGE}
 # What the tree has of this repository.
-SHARED = ["ti", "ti-path", "install", "gate", "checks", "include", "python", "completions", "docs/ti.1", "docs/ti-path.1", "docs/ti.3",
+SHARED = ["ti", "ti-path", "ti-source", "ti-lint", "install", "gate", "checks", "include", "python", "completions", "docs/ti.1", "docs/ti-path.1", "docs/ti-source.1", "docs/ti-lint.1", "docs/ti.3",
           "docs/ti-formats.5", "docs/ti-faults.7", "docs/ti-findings.7", "dist/common.sh", "dist/manifest.sh", "dist/take", "dist/sources",
           "dist/make", "dist/compare"]
 # Each command in place of another writes its name to the file `called`.
