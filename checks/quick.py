@@ -28,7 +28,8 @@ from checks.machine import DIST, PROVED_ARCHIVE, PROVED_PROGRAM, ROOT, is_there,
 OF_PROGRAM = [
     "rust/check", "page/check", "dist/qemu", "completions/check", "model/compare 500", "docs/commands", "c/installed", "c/check",
     "c/package", "model/names", "model/terminals", "model/paths", "model/tic", "model/tput", "model/upstream", "dist/check", "python/check",
-    "c/header", "program/check", "program/paths", "program/hostile", "program/tasks", "program/remedies", "program/sources", "clients/run", "compat/check", "program/oracle",
+    "c/header", "program/check", "program/paths", "program/hostile", "program/tasks", "program/remedies", "program/sources", "program/rows", "program/memory",
+    "clients/run", "compat/check", "program/oracle",
 ]
 WHOLE = "./gate is the whole test"
 # What cargo compiles for longer than half a minute.
@@ -221,5 +222,5 @@ def main(commit: str = "HEAD") -> NoReturn:
     quick.run("docs/check", [str(ROOT / "docs/check")])
     look_at_changes(quick, commit)
     test_program(quick)
-    quick.left_out += ["rt ci", "the wrong bodies of other crates", "edits/test", "dist/compare", OF_CARGO]
+    quick.left_out += ["rt ci", "the wrong bodies of other crates", "edits/mechanical", "edits/test", "dist/compare", OF_CARGO]
     quick.end()
