@@ -2,7 +2,9 @@
 
 Each changes a line or two: a call is left out, a constant, a word, a variant or a comparison is another, a bound is off by one, a test
 is turned round, two arms or two calls are swapped, a value is none, or the function returns at once. A name has the function, the
-kind and the line within its body. Some do not compile, and count for nothing.
+kind and the line within its body. Some do not compile, and count for nothing. A function of which few are made so has further ones: a
+loop ends at once, the last call is left out, made twice, or its result is another, the values of two fields are swapped, a byte, a
+length, a limit or a line of a text is another.
 """
 
 import random
@@ -17,8 +19,10 @@ from schema import NO_ARMS, maker, opening_of
 
 # So many wrong bodies a function has at most.
 MOST_OF_A_FUNCTION = 4
+# One with fewer has further ones.
+LEAST_OF_A_FUNCTION = 3
 # Of these kinds many do not compile, so they come after the others.
-LATER = {"arms", "none"}
+LATER = {"arms", "none", "limit"}
 CALL = re.compile(r"^ *[\w.:]+\(.*\)\??;$")
 NUMBER = re.compile(r"(?<![\w.\"'#])(\d+)(?![\w.\"'])")
 WORD = re.compile(r"\"(?:[^\"\\]|\\.)*\"")
@@ -37,6 +41,21 @@ RETURNED = [
     (r"-> bool", "true"), (r"-> bool", "false"), (r"-> Result<\(\),", "Ok(())"), (r"-> Result<bool,", "Ok(false)"), (r"-> Result<Option<", "Ok(None)"),
     (r"-> Option<", "None"), (r"-> (?:usize|u8|u16|u32|u64|u128|i32)$", "0"), (r"-> &(?:'\w+ )?str", '""'), (r"-> &(?:'\w+ )?\[u8\]", 'b""'),
     (r"-> Result<Vec<u8, A>,", "Ok(Vec::new(alloc))"),
+]
+LOOP = re.compile(r"^ *(?:'\w+: )?(?:for|while|loop)\b.* \{(\})?$")
+BYTE = re.compile(r"b'([!-&(-\[\]-}])'")
+LIMIT = re.compile(r"(?<![\w:'\"])[A-Z][A-Z0-9_]{3,}\b(?!::|\()")
+FIELD = re.compile(r"^( *\w+: )(.*),$")
+LENGTHS = {".min(": ".max(", ".max(": ".min(", ".len())": ".len() + 1)", ".len(),": ".len() + 1,", ".first()": ".last()", ".last()": ".first()"}
+FURTHER_RETURNED = [
+    (r"-> (?:usize|u8|u16|u32|u64|u128|i32)$", "1"), (r"-> &(?:'\w+ )?str", '"~"'), (r"-> &(?:'\w+ )?\[u8\]", 'b"~"'),
+    (r"-> &(?:'\w+ )?\[(?!u8)", "&[]"), (r"-> Option<usize>", "Some(0)"), (r"-> Option<&(?:'\w+ )?str>", 'Some("~")'),
+    (r"-> Result<usize,", "Ok(0)"), (r"-> Result<\(usize, u128\),", "Ok((0, 0))"), (r"\bself\b.*-> Self$", "self"),
+]
+# What the last expression of a function may be in place of what it is, by the function's type.
+ENDS = [
+    (r"-> bool$", "!({0})"), (r"-> (?:usize|u8|u16|u32|u64|u128|i32)$", "({0}) + 1"), (r"-> Result<\(\),", "Ok(())"), (r"-> Result<\(\),", "{0}?; {0}"),
+    (r"-> Option<", "{0}.and(None)"), (r"^(?!.*->)", ""), (r"^(?!.*->)", "{0}; {0}"),
 ]
 
 
@@ -127,25 +146,80 @@ def wrong_lines(crate: str, line: str, following: str) -> Iterable[tuple[str, li
         yield "arms", [f"{first[1]}{first[2]} => {second[3]},", f"{first[1]}{second[2]} => {first[3]},"]
 
 
-def returns_of(header: str, has_alloc: bool) -> Iterable[str]:
+def further_lines(line: str, following: str) -> Iterable[tuple[str, list[str]]]:
+    """Further wrong lines, by kind."""
+    if ends := LOOP.match(line):
+        yield "loop", [f"{line[:-1]} break; }}" if ends[1] else f"{line} break;"]
+    for found in BYTE.finditer(line):
+        yield "byte", [f"{line[: found.start(1)]}{chr(ord(found[1]) ^ 1)}{line[found.end(1) :]}"]
+    for new in changed(line, LENGTHS):
+        yield "length", [new]
+    for found in LIMIT.finditer(line):
+        yield "limit", [f"{line[: found.start()]}({found[0]} + 1){line[found.end() :]}"]
+    first, second = FIELD.match(line), FIELD.match(following)
+    if first and second and first[2] != second[2]:
+        yield "fields", [f"{first[1]}{second[2]},", f"{second[1]}{first[2]},"]
+    # A line of a text of several lines.
+    if re.match(r" {0,2}\w", line):
+        yield "text", [re.sub(r"\w", "~", line, count=1)]
+
+
+def further_ends(header: str, line: str) -> Iterable[tuple[str, list[str]]]:
+    """What the last line of a function may be in place of what it is, if it is a whole expression."""
+    is_whole = re.fullmatch(r" {4,8}(?:[\w&!*].*[\w)?\]])", line) and "{" not in line and line.count("(") == line.count(")")
+    if is_whole and line.strip() not in ("Ok(())", "None"):
+        for pattern, value in ENDS:
+            if re.search(pattern, header):
+                yield "end", [f"    {value.format(line.strip())}"]
+
+
+def further_wrong(crate: str, function: Function) -> list[tuple[str, dict[tuple[str, int], str]]]:
+    """Further mechanical wrong bodies of a function."""
+    lines, places = lines_of(crate, function.file), places_of(crate, function)
+    _, header = head_of(crate, function)
+    found: list[tuple[str, dict[tuple[str, int], str]]] = []
+    for value in returns_of(header, False, FURTHER_RETURNED) if places else []:
+        found.append(("return", {(function.file, places[0]): f"{value} {lines[places[0]].strip()}"}))
+    for at in places:
+        news = [*further_lines(lines[at], lines[at + 1] if at + 1 in places else "")]
+        for kind, new in [*news, *(further_ends(header, lines[at]) if at + 1 == function.last else [])]:
+            found.append((kind, {(function.file, at + step): line for step, line in enumerate(new)}))
+    return found
+
+
+def returns_of(header: str, has_alloc: bool, known: list[tuple[str, str]]) -> Iterable[str]:
     """What a function may return at once."""
-    if "->" not in header:
+    if "->" not in header and known is RETURNED:
         yield "return;"
-    for pattern, value in RETURNED:
+    for pattern, value in known:
         if re.search(pattern, header) and (has_alloc or "alloc" not in value):
             yield f"return {value};"
 
 
-def all_wrong(crate: str, function: Function) -> list[tuple[str, dict[tuple[str, int], str]]]:
-    """All mechanical wrong bodies of a function: the kind, and the lines that are changed."""
+def head_of(crate: str, function: Function) -> tuple[str, str]:
+    """The head of a function on one line, and the line of it that has the type."""
+    lines = lines_of(crate, function.file)
+    opening = opening_of(lines, function)
+    assert opening is not None
+    head = lines[function.head : opening + 1]
+    whole = " ".join(head).split(" where ")[0]
+    return whole, next((line for line in head if "->" in line), whole).removesuffix(" {")
+
+
+def places_of(crate: str, function: Function) -> list[int]:
+    """The numbers of a function's lines of code."""
     lines, left = lines_of(crate, function.file), left_lines(crate, function.file)
     opening = opening_of(lines, function)
     assert opening is not None
-    places = [at for at in range(opening + 1, function.last) if lines[at] in left and not re.match(r" *(?://|#\[|\}*$)", lines[at])]
+    return [at for at in range(opening + 1, function.last) if lines[at] in left and not re.match(r" *(?://|#\[|\}*$)", lines[at])]
+
+
+def all_wrong(crate: str, function: Function) -> list[tuple[str, dict[tuple[str, int], str]]]:
+    """All mechanical wrong bodies of a function: the kind, and the lines that are changed."""
+    lines, places = lines_of(crate, function.file), places_of(crate, function)
+    head, header = head_of(crate, function)
     found: list[tuple[str, dict[tuple[str, int], str]]] = []
-    header = " ".join(lines[function.head : opening + 1]).split(" where ")[0]
-    head = next((line for line in lines[function.head : opening + 1] if "->" in line), header).removesuffix(" {")
-    for value in returns_of(head, "alloc:" in header) if places else []:
+    for value in returns_of(header, "alloc:" in head, RETURNED) if places else []:
         found.append(("return", {(function.file, places[0]): f"{value} {lines[places[0]].strip()}"}))
     for at in places:
         for kind, new in wrong_lines(crate, lines[at], lines[at + 1] if at + 1 in places else ""):
@@ -156,6 +230,8 @@ def all_wrong(crate: str, function: Function) -> list[tuple[str, dict[tuple[str,
 def drawn_of(crate: str, function: Function) -> list[tuple[str, dict[tuple[str, int], str]]]:
     """A few of the wrong bodies of a function, of as many kinds as may be, the same in each run."""
     every = all_wrong(crate, function)
+    if len(every) < LEAST_OF_A_FUNCTION:
+        every += further_wrong(crate, function)
     random.Random(f"{crate}::{function.name}").shuffle(every)
     ranks: dict[str, int] = {}
     order = []

@@ -66,8 +66,18 @@ def noted(crate: str, function: Function, places: list[tuple[str, Function, int]
     return found
 
 
+def names_of(places: list[tuple[str, Function, int]]) -> list[str]:
+    """The names of places: the function and the line's text, with a number if it stands there more than once."""
+    found: list[str] = []
+    for crate, function, at in places:
+        name = f"{crate}/{function.name}: {lines_of(crate, function.file)[at].strip()}"
+        number = 1 + sum(other.partition(" #")[0] == name for other in found)
+        found.append(name if number == 1 else f"{name} #{number}")
+    return found
+
+
 def unreached(functions: list[tuple[str, Function]]) -> list[str]:
-    """The places of functions that no row reaches, each with its line."""
+    """The names of the places of functions that no row reaches."""
     from own_tests import OF_WORDING
 
     shutil.rmtree(OUT / "reach", ignore_errors=True)
@@ -93,5 +103,4 @@ def unreached(functions: list[tuple[str, Function]]) -> list[str]:
         words = [built.program, *which, "--skip", OF_WORDING, "-q"]
         subprocess.run(words, env={**os.environ, NOTES: str(notes)}, stdout=subprocess.DEVNULL, check=False)
     seen = set(map(int, notes.read_text().split())) if notes.exists() else set()
-    missed = [place for at, place in enumerate(places) if at not in seen]
-    return [f"{name}/{function.file}:{at + 1}: {function.name}: {lines_of(name, function.file)[at].strip()}" for name, function, at in missed]
+    return [name for at, name in enumerate(names_of(places)) if at not in seen]

@@ -24,8 +24,8 @@ from schema import CHOICE, Crate, has_arms, sources_with
 from trial import ACCEPTED, BAD, REFUSED, Stopped, tell
 
 OUT = HERE / "out/rows"
-# A run of all rows takes three seconds.
-MOST_SECONDS, MOST_BYTES = 60, 4 << 30
+# A run of all rows takes three seconds of a processor, and much longer by the clock if others work too.
+MOST_PROCESSOR_SECONDS, MOST_SECONDS, MOST_BYTES = 20, 1800, 4 << 30
 FAILED = re.compile(r"test (\S+) \.\.\. FAILED")
 # The rows that mostly refuse an edit come first, and the tests of entries, which take longest, come last.
 FIRST, LAST = ["rows_of_", "runs_of_", "report_tests::", "request_tests::", "notation_tests::"], "entry_tests::"
@@ -76,8 +76,9 @@ def build(folder: Path) -> Built:
 
 
 def limited() -> None:
-    """Keeps a run from taking all memory."""
+    """Keeps a run from taking all memory, or a processor forever."""
     resource.setrlimit(resource.RLIMIT_AS, (MOST_BYTES, MOST_BYTES))
+    resource.setrlimit(resource.RLIMIT_CPU, (MOST_PROCESSOR_SECONDS, MOST_PROCESSOR_SECONDS))
 
 
 def run_rows(program: str, number: int) -> Told:

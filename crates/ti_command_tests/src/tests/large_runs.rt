@@ -17,6 +17,18 @@ fn many(alloc: Global, byte: u8, count: usize, after: &[u8]) -> Result<Vec<u8>, 
     Ok(bytes)
 }
 
+/// The front of an entry whose texts from `cbt` on, of which `csr` is absent, are the same 4700 bytes.
+const SHARING: &[u8] =
+    b"\x1a\x01\x02\0\0\0\0\0\x08\0\x5d\x12t\0\0\0\0\0\0\0\xff\xff\0\0\0\0\0\0\0\0";
+
+/// That entry, all of whose texts are the same bytes `a`.
+fn sharing(alloc: Global) -> Result<Vec<u8>, Unfound> {
+    let mut bytes = SHARING.to_vec(alloc)?;
+    bytes.resize(4730, b'a')?;
+    bytes.push(0)?;
+    Ok(bytes)
+}
+
 /// The bytes of a draft with a text more.
 fn encoded_with<'a>(
     alloc: Global,
@@ -34,7 +46,7 @@ fn entry_of(alloc: Global, text: &[u8]) -> Result<Vec<u8>, Unfound> {
 }
 
 /// The bytes of a name: a capability of depth 32, one of 32000 bytes `a` and a number, and what it writes for the number 12; an
-/// entry whose texts are the same bytes, and the longest; 20000 bytes 128; and NULs in octal, as many as a capability may have.
+/// entry whose texts are the same bytes, and the longest; seven texts that are the same; 20000 bytes 128.
 fn input_of(alloc: Global, name: &str) -> Result<Vec<u8>, Unfound> {
     match name {
         "deep" => Ok(deep(alloc)?),
@@ -42,6 +54,7 @@ fn input_of(alloc: Global, name: &str) -> Result<Vec<u8>, Unfound> {
         "large output" => many(alloc, b'a', 32000, b"12"),
         "shared by many" => Ok(shared_by_many().to_vec(alloc)?),
         "longest" => Ok(longest().to_vec(alloc)?),
+        "sharing" => sharing(alloc),
         "not ASCII" => many(alloc, 0x80, 20000, b""),
         _ => Err(Unfound),
     }
@@ -79,6 +92,8 @@ ti check | entry of deep => 0 out text cbt ok depth 32 bound 341\n
 ti check | entry of large => 0 out text cbt ok depth 1 bound 32011\n
 ti convert | shared by many => 3 err entry: TooManyOrLong\n
 ti convert --wide | longest => 3 err entry: TooManyOrLong\n
+# six times 4700 bytes are 28200, and seven times 32900
+ti lint --untrusted --summary | sharing => 1 out entry\n  layout: the bytes are not those that tic writes\n  do: write the entry anew with ti convert\nentry\n  not-tried: its strings share bytes, and have more than 32768 together, so not all are looked at; not at ed\n  do: leave out some of them\n err 2 findings in 1 entry: 6 strings looked at, 0 of them over 0 values, 1 not looked at\n
 ";
 
 #[test]

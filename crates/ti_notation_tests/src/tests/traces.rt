@@ -31,6 +31,7 @@ const TRACED_IN_HEX: &str = r"
 
 /// The same with runs of bytes joined.
 const JOINED: &str = r"
+abcd%p1%d | 7 => place^Itoken          ^Irun    ^Istack                  ^Iwrote\n    0^Iabcd           ^Iran    ^I-                      ^I61626364\n    4^I%p1            ^Iran    ^I7                      ^I-\n    7^I%d             ^Iran    ^I-                      ^I37\noutput: 6162636437\nwritten: 5\nran: 6\npassed: 0\nheight: 1\ndepth: 1\nbound: 15\n
 \E[%p1%dG | 7 => place^Itoken          ^Irun    ^Istack                  ^Iwrote\n    0^I\\E[            ^Iran    ^I-                      ^I1b5b\n    2^I%p1            ^Iran    ^I7                      ^I-\n    5^I%d             ^Iran    ^I-                      ^I37\n    7^IG              ^Iran    ^I-                      ^I47\noutput: 1b5b3747\nwritten: 4\nran: 5\npassed: 0\nheight: 1\ndepth: 1\nbound: 14\n
 a%%bc | 0 => place^Itoken          ^Irun    ^Istack                  ^Iwrote\n    0^Ia              ^Iran    ^I-                      ^I61\n    1^I%%             ^Iran    ^I-                      ^I25\n    3^Ibc             ^Iran    ^I-                      ^I6263\noutput: 61256263\nwritten: 4\nran: 4\npassed: 0\nheight: 0\ndepth: 0\nbound: 4\n
 ";

@@ -150,6 +150,8 @@ mistakes in file | home=\E[H | bold=\E]52;c;aGk=^G => file: bold\n  \\E]52;c;aGk
 mistakes in file | home=\E[H | bold=\E[5i => file: bold\n  \\E[5i\n  \^\n  print: CSI 5i, a copy to the printer: the terminal prints\n  do: leave it out, or send it in a string that is for it\n
 mistakes in file | home=\E[H | bold=\E[?1000h => file: bold\n  \\E[?1000h\n  \^\n  reports: CSI ?1000h, a mode in which the terminal reports: the terminal types reports at the shell from then on\n  do: leave it out, or send it in a string that is for it\n
 mistakes in file | home=\E[H | bold=\E]9;x^G => file: bold\n  \\E]9;x\^G\n  \^\n  other-control: OSC 9;x, a control of some terminals: the terminal notifies, links or runs a command of its own\n  do: leave it out, or send it in a string that is for it\n
+# Nothing stands between its start and its end.
+mistakes in file | home=\E[H | bold=\EP\E\\ => file: bold\n  \\EP\\E\\\\\n  \^\n  other-control: DCS, a device control string: the terminal programs keys, loads characters or draws\n  do: leave it out, or send it in a string that is for it\n
 ";
 
 #[test]
