@@ -1,0 +1,66 @@
+-- What a string sends, held against the table.
+use Rattle.std.specs.Prelude.{◌≡◌, ℕ, true, List, [], ◌∷◌, ℤ}
+use Rattle.std.specs.List.{AllByRecursion}
+use Rattle.ti_allow.specs.Rows.{is_allowed}
+use Rattle.ti_allow.specs.declared.row.Row.{Row}
+use Rattle.ti_cap.specs.Spelling.{Writes}
+use Rattle.ti_cap.specs.Tree.{Sequence}
+use Rattle.ti_expand.specs.Meaning.{meaning}
+use Rattle.ti_expand.specs.Sound.{AreVariables}
+use Rattle.ti_expand.specs.State.{start}
+use Rattle.ti_expand.specs.declared.values.Value.{Value}
+use Rattle.ti_parser.specs.Machine.{Run, ground, run}
+use Rattle.ti_parser.specs.Padding.{without_marks}
+use Rattle.ti_parser.specs.Paths.{IsData}
+use Rattle.ti_parser.specs.declared.character.Begun.TheVariants.{Nothing}
+use Rattle.ti_parser.specs.declared.configuration.Configuration.{Configuration}
+use Rattle.ti_parser.specs.declared.function.Function.{Function}
+use Rattle.ti_parser.specs.declared.padding.Marks.TheVariants.{Tputs, TiPad}
+use Rattle.ti_parser.specs.declared.reading.Coding.{Coding}
+use Rattle.ti_parser.specs.declared.reading.Coding.TheVariants.{Utf8, Utf8WithC1, Bytes}
+use Rattle.ti_parser.specs.declared.reading.Reading.{Reading}
+use Rattle.ti_parser.specs.declared.reading.Reception.{Reception}
+use Rattle.ti_parser.specs.declared.reading.Within.TheVariants.{StartsAnew, GoesOn}
+use Rattle.ti_parser.specs.declared.state.State.TheVariants.{Ground}
+
+-- each function is one that the string with the name may send
+abbrev pub AreAllowed : List Row → List ℕ → List Function → Type 0
+AreAllowed rows name functions = AllByRecursion (λ function. is_allowed rows name function ≡ true) functions
+
+-- outside of functions, with no character of UTF-8 begun
+pub record IsClean (c : Configuration) : Type 0 where
+  pub state : c.state ≡ Ground
+  pub begun : c.begun ≡ Nothing
+
+-- a terminal takes no other function, and is as it was in the end
+pub record IsHarmless (rows : List Row) (name : List ℕ) (r : Run) : Type 0 where
+  pub functions : AreAllowed rows name r.functions
+  pub end : IsClean r.configuration
+
+-- so it is of what a capability sends, for all variables and parameters whose texts are data
+unfoldable pub OnlyTable : List Row → List ℕ → Reception → List ℕ → Type 0
+OnlyTable rows name r bytes = (tree : Sequence) → Writes tree bytes → (variables : List ℤ) (parameters : List Value)
+    → AreVariables variables → AllByRecursion IsData parameters
+    → IsHarmless rows name (run r.reading ground (without_marks r.marks (meaning tree (start variables parameters)).output))
+
+-- nothing is reported
+abbrev pub IsSilent : {X : Type 0} → List X → Type 0
+IsSilent [] = Unit {0}
+IsSilent (found ∷ rest) = ⊥
+
+-- what the parser takes as ncurses' `tputs` sends it, and as `ti_pad` does, in one reading
+unfoldable pub OnlyTableIn : List Row → List ℕ → Reading → List ℕ → Type 0
+OnlyTableIn rows name reading bytes =
+    OnlyTable rows name (record { reading = reading; marks = Tputs }) bytes
+    × OnlyTable rows name (record { reading = reading; marks = TiPad }) bytes
+
+-- in each reading of a coding
+unfoldable pub OnlyTableOf : List Row → List ℕ → Coding → List ℕ → Type 0
+OnlyTableOf rows name coding bytes =
+    OnlyTableIn rows name (record { coding = coding; within = StartsAnew }) bytes
+    × OnlyTableIn rows name (record { coding = coding; within = GoesOn }) bytes
+
+-- in each reading of each coding
+unfoldable pub OnlyTableAlways : List Row → List ℕ → List ℕ → Type 0
+OnlyTableAlways rows name bytes =
+    OnlyTableOf rows name Utf8 bytes × OnlyTableOf rows name Utf8WithC1 bytes × OnlyTableOf rows name Bytes bytes

@@ -1,0 +1,4 @@
+pub mod Effects
+pub mod Harmless
+pub mod Names
+pub mod Rows

@@ -1,0 +1,41 @@
+-- In which strings a function may stand, by the names of terminfo(5) and user_caps(5), and those that ncurses, tmux(1), screen(1) and
+-- Vim use: made of docs/functions.tsv and docs/effects.tsv by docs/functions.py.
+use Rattle.std.specs.Prelude.{ℕ, List, [], ◌∷◌, codes}
+use Rattle.ti_allow.specs.declared.standing.Standing.{Standing}
+use Rattle.ti_allow.specs.declared.standing.Standing.TheVariants.{Everywhere, Start, U9, Rect, ScreenStart, StartWsZ0Z1, Mouse, FeEnfcs, BeEnbp, StartScreen, U7, Rv, Xr, TitleScreen, PrintStart, Print, Title, TitleStart, Ws, PaletteStart, Clipboard, Swd, Hls, Flash, Sync, Keyprog, Answers, Events, Eneks, Xm, WsStart, Nowhere, Ms, DeviceStart}
+
+unfoldable pub names_of : Standing → List (List ℕ)
+names_of Everywhere = []
+names_of Start = codes "is1" ∷ codes "is2" ∷ codes "is3" ∷ codes "rs1" ∷ codes "rs2" ∷ codes "rs3" ∷ codes "OTi2" ∷ codes "OTrs" ∷ []
+names_of U9 = codes "u9" ∷ []
+names_of Rect = codes "Rect" ∷ []
+names_of ScreenStart = codes "smcup" ∷ codes "rmcup" ∷ codes "OTTI" ∷ codes "is1" ∷ codes "is2" ∷ codes "is3" ∷ codes "rs1" ∷ codes "rs2" ∷ codes "rs3" ∷ codes "OTi2" ∷ codes "OTrs" ∷ []
+names_of StartWsZ0Z1 = codes "is1" ∷ codes "is2" ∷ codes "is3" ∷ codes "rs1" ∷ codes "rs2" ∷ codes "rs3" ∷ codes "OTi2" ∷ codes "OTrs" ∷ codes "WS" ∷ codes "Z0" ∷ codes "Z1" ∷ []
+names_of Mouse = codes "XM" ∷ []
+names_of FeEnfcs = codes "fe" ∷ codes "Enfcs" ∷ []
+names_of BeEnbp = codes "BE" ∷ codes "Enbp" ∷ []
+names_of StartScreen = codes "is1" ∷ codes "is2" ∷ codes "is3" ∷ codes "rs1" ∷ codes "rs2" ∷ codes "rs3" ∷ codes "OTi2" ∷ codes "OTrs" ∷ codes "smcup" ∷ codes "rmcup" ∷ codes "OTTI" ∷ []
+names_of U7 = codes "u7" ∷ []
+names_of Rv = codes "RV" ∷ []
+names_of Xr = codes "XR" ∷ []
+names_of TitleScreen = codes "tsl" ∷ codes "fsl" ∷ codes "dsl" ∷ codes "TS" ∷ codes "smcup" ∷ codes "rmcup" ∷ codes "OTTI" ∷ []
+names_of PrintStart = codes "mc0" ∷ codes "mc4" ∷ codes "mc5" ∷ codes "mc5p" ∷ codes "is1" ∷ codes "is2" ∷ codes "is3" ∷ codes "rs1" ∷ codes "rs2" ∷ codes "rs3" ∷ codes "OTi2" ∷ codes "OTrs" ∷ []
+names_of Print = codes "mc0" ∷ codes "mc4" ∷ codes "mc5" ∷ codes "mc5p" ∷ []
+names_of Title = codes "tsl" ∷ codes "fsl" ∷ codes "dsl" ∷ codes "TS" ∷ []
+names_of TitleStart = codes "tsl" ∷ codes "fsl" ∷ codes "dsl" ∷ codes "TS" ∷ codes "is1" ∷ codes "is2" ∷ codes "is3" ∷ codes "rs1" ∷ codes "rs2" ∷ codes "rs3" ∷ codes "OTi2" ∷ codes "OTrs" ∷ []
+names_of Ws = codes "WS" ∷ []
+names_of PaletteStart = codes "initc" ∷ codes "initp" ∷ codes "oc" ∷ codes "Cs" ∷ codes "Cr" ∷ codes "is1" ∷ codes "is2" ∷ codes "is3" ∷ codes "rs1" ∷ codes "rs2" ∷ codes "rs3" ∷ codes "OTi2" ∷ codes "OTrs" ∷ []
+names_of Clipboard = codes "Ms" ∷ []
+names_of Swd = codes "Swd" ∷ []
+names_of Hls = codes "Hls" ∷ []
+names_of Flash = codes "flash" ∷ []
+names_of Sync = codes "Sync" ∷ []
+names_of Keyprog = codes "pfkey" ∷ codes "pfloc" ∷ codes "pfx" ∷ codes "pfxl" ∷ codes "pln" ∷ []
+names_of Answers = codes "u7" ∷ codes "u9" ∷ codes "RV" ∷ codes "XR" ∷ []
+names_of Events = codes "XM" ∷ codes "BE" ∷ codes "fe" ∷ codes "Enfcs" ∷ codes "Enbp" ∷ codes "Eneks" ∷ []
+names_of Eneks = codes "Eneks" ∷ []
+names_of Xm = codes "XM" ∷ []
+names_of WsStart = codes "WS" ∷ codes "is1" ∷ codes "is2" ∷ codes "is3" ∷ codes "rs1" ∷ codes "rs2" ∷ codes "rs3" ∷ codes "OTi2" ∷ codes "OTrs" ∷ []
+names_of Nowhere = []
+names_of Ms = codes "Ms" ∷ []
+names_of DeviceStart = codes "pfkey" ∷ codes "pfloc" ∷ codes "pfx" ∷ codes "pfxl" ∷ codes "pln" ∷ codes "smkx" ∷ codes "rmkx" ∷ codes "smcup" ∷ codes "rmcup" ∷ codes "smsc" ∷ codes "rmsc" ∷ codes "tsl" ∷ codes "fsl" ∷ codes "dsl" ∷ codes "Sync" ∷ codes "is1" ∷ codes "is2" ∷ codes "is3" ∷ codes "rs1" ∷ codes "rs2" ∷ codes "rs3" ∷ codes "OTi2" ∷ codes "OTrs" ∷ []

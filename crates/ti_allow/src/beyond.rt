@@ -1,0 +1,236 @@
+//! What a string can send, held against the table.
+
+ghost use Rattle.std.specs.Prelude.{◌≡◌, true, IfOk, OnOk};
+ghost use Rattle.std.specs.Bool.{OnTrue};
+ghost use Rattle.std.specs.List.{AllByRecursion};
+ghost use Rattle.ti_allow.specs.Harmless.{AreAllowed, IsClean, IsSilent, OnlyTable, OnlyTableAlways, OnlyTableIn, OnlyTableOf};
+ghost use Rattle.ti_allow.specs.Rows.{is_allowed};
+ghost use Rattle.ti_parser.specs.declared.paths.Outcome.TheVariants as outcomes;
+
+use crate::allowed::ALLOWED;
+use crate::table::is_allowed;
+use std::alloc::{AllocError, Allocator};
+use ti_cap::Capability;
+use ti_parser::{
+    Begun, Coding, Configuration, Function, Marks, Outcome, Reading, Reception, State, Within,
+    functions_of,
+};
+
+/// What a string can send, or do, that is not in the table.
+#[derive(Drop)]
+pub enum Found {
+    /// A function, and the place of the token that completes it.
+    Function(Function, usize),
+    /// A byte that is computed, so that nothing is known of what follows.
+    ComputedByte,
+    /// An end within a function or a character.
+    Open(State),
+    /// More forms than are followed.
+    NotTried,
+}
+
+impl Found {
+    /// Whether both say the same.
+    fn is_same(&self, other: &Found) -> bool {
+        match (self, other) {
+            (Found::Function(one, place), Found::Function(two, its)) => place == its
+                && one.is_same(two),
+            (Found::Open(one), Found::Open(two)) => one == two,
+            (Found::ComputedByte, Found::ComputedByte) | (Found::NotTried, Found::NotTried) => true,
+            _ => false,
+        }
+    }
+}
+
+/// Adds what is found, if it is new.
+fn add<A: Allocator>(found: &mut Vec<Found, A>, new: Found) -> Result<(), AllocError>
+    ensures { OnOk result (IsSilent found.new.items → ⊥) }
+{
+    if !found.iter().any(|old| old.is_same(&new)) {
+        found.push(new)?;
+    }
+    Ok(())
+}
+
+/// Adds a function that the string with a name may not send.
+fn add_function<A: Allocator>(
+    found: &mut Vec<Found, A>,
+    name: &[u8],
+    function: &Function,
+    place: usize,
+) -> Result<(), AllocError>
+    ensures before { OnOk result (IsSilent found.new.items → IsSilent found.old.items) }
+    ensures allowed { OnOk result (IsSilent found.new.items → is_allowed ALLOWED name.now function.now ≡ true) }
+{
+    if is_allowed(name, function) {
+        return Ok(());
+    }
+    add(found, Found::Function(function.duplicate(), place))
+}
+
+/// The place of the function at an index.
+fn place_at(places: &[usize], index: usize) -> usize {
+    places.get(index).copied().unwrap_or(0)
+}
+
+/// Adds the functions that the string with a name may not send.
+fn add_functions<A: Allocator>(
+    found: &mut Vec<Found, A>,
+    name: &[u8],
+    functions: &[Function],
+    places: &[usize],
+) -> Result<(), AllocError>
+    ensures before { OnOk result (IsSilent found.new.items → IsSilent found.old.items) }
+    ensures allowed { OnOk result (IsSilent found.new.items → AreAllowed ALLOWED name.now functions.now) }
+{
+    let mut index = 0usize;
+    'functions: for function in functions {
+        add_function(found, name, function, place_at(places, index))?;
+        index = index.saturating_add(1);
+    }
+    Ok(())
+}
+
+/// Whether a parser is outside of functions, with no character begun.
+fn is_clean(end: &Configuration) -> bool
+    ensures { OnTrue result (IsClean end.now) }
+{
+    end.state == State::Ground && end.begun == Begun::Nothing
+}
+
+/// Adds the ends within a function or a character.
+fn add_ends<A: Allocator>(
+    found: &mut Vec<Found, A>,
+    ends: &[Configuration],
+) -> Result<(), AllocError>
+    ensures before { OnOk result (IsSilent found.new.items → IsSilent found.old.items) }
+    ensures clean { OnOk result (IsSilent found.new.items → AllByRecursion IsClean ends.now) }
+{
+    'ends: for end in ends {
+        if !is_clean(end) {
+            add(found, Found::Open(end.state))?;
+        }
+    }
+    Ok(())
+}
+
+/// Adds why the paths of a string were not followed to their ends.
+fn add_outcome<A: Allocator>(found: &mut Vec<Found, A>, outcome: Outcome) -> Result<(), AllocError>
+    ensures before { OnOk result (IsSilent found.new.items → IsSilent found.old.items) }
+    ensures whole { OnOk result (IsSilent found.new.items → outcome ≡ outcomes.Whole) }
+{
+    match outcome {
+        Outcome::Whole => Ok(()),
+        Outcome::ComputedByte => add(found, Found::ComputedByte),
+        Outcome::NotTried => add(found, Found::NotTried),
+    }
+}
+
+/// Adds what a string can send, received in one way, that its name does not allow.
+fn add_received<A: Allocator + Copy>(
+    alloc: A,
+    found: &mut Vec<Found, A>,
+    reception: Reception,
+    name: &[u8],
+    capability: &Capability<'_>,
+) -> Result<(), AllocError>
+    ensures before { OnOk result (IsSilent found.new.items → IsSilent found.old.items) }
+    ensures table { OnOk result (IsSilent found.new.items → OnlyTable ALLOWED name.now reception capability.now) }
+{
+    let sent = functions_of(alloc, reception, capability)?;
+    add_functions(found, name, &sent.functions, &sent.places)?;
+    add_ends(found, &sent.ends)?;
+    add_outcome(found, sent.outcome)?;
+    Ok(())
+}
+
+/// The same in one reading, without the padding marks that `tputs` of ncurses takes out, and without those of `ti_pad`.
+#[tactic(auto, unfolding(crate::specs::Harmless::OnlyTableIn))]
+fn add_read<A: Allocator + Copy>(
+    alloc: A,
+    found: &mut Vec<Found, A>,
+    reading: Reading,
+    name: &[u8],
+    capability: &Capability<'_>,
+) -> Result<(), AllocError>
+    ensures before { OnOk result (IsSilent found.new.items → IsSilent found.old.items) }
+    ensures table { OnOk result (IsSilent found.new.items → OnlyTableIn ALLOWED name.now reading capability.now) }
+{
+    add_received(
+        alloc,
+        found,
+        Reception {
+            reading,
+            marks: Marks::Tputs,
+        },
+        name,
+        capability,
+    )?;
+    add_received(
+        alloc,
+        found,
+        Reception {
+            reading,
+            marks: Marks::TiPad,
+        },
+        name,
+        capability,
+    )?;
+    Ok(())
+}
+
+/// The same in both readings of a coding.
+#[tactic(auto, unfolding(crate::specs::Harmless::OnlyTableOf))]
+fn add_coded<A: Allocator + Copy>(
+    alloc: A,
+    found: &mut Vec<Found, A>,
+    coding: Coding,
+    name: &[u8],
+    capability: &Capability<'_>,
+) -> Result<(), AllocError>
+    ensures before { OnOk result (IsSilent found.new.items → IsSilent found.old.items) }
+    ensures table { OnOk result (IsSilent found.new.items → OnlyTableOf ALLOWED name.now coding capability.now) }
+{
+    add_read(
+        alloc,
+        found,
+        Reading {
+            coding,
+            within: Within::StartsAnew,
+        },
+        name,
+        capability,
+    )?;
+    add_read(
+        alloc,
+        found,
+        Reading {
+            coding,
+            within: Within::GoesOn,
+        },
+        name,
+        capability,
+    )?;
+    Ok(())
+}
+
+/// What the string with a name can send, or do, that is not in the table: on all paths, for all variables and parameters whose texts
+/// are data, in each reading, as `tputs` of ncurses and as `ti_pad` send it. If nothing is found, it keeps to the table.
+///
+/// # Errors
+///
+/// Memory was refused.
+#[tactic(auto, unfolding(crate::specs::Harmless::OnlyTableAlways))]
+pub fn beyond_table<A: Allocator + Copy>(
+    alloc: A,
+    name: &[u8],
+    capability: &Capability<'_>,
+) -> Result<Vec<Found, A>, AllocError>
+    ensures only_table { IfOk result (λ found. IsSilent found.items → OnlyTableAlways ALLOWED name.now capability.now) }
+{
+    let mut found = Vec::new(alloc);
+    add_coded(alloc, &mut found, Coding::Utf8, name, capability)?;
+    add_coded(alloc, &mut found, Coding::Utf8WithC1, name, capability)?;
+    add_coded(alloc, &mut found, Coding::Bytes, name, capability)?;
+    Ok(found)
+}

@@ -1,0 +1,22 @@
+//! Which functions of a terminal a string may send.
+//!
+//! A table has the functions that terminals of today share and that do no harm where they stand. [`is_allowed`] looks a function up in
+//! it, and [`beyond_table`] reports what a string can send beside it, on all its paths: if it reports nothing, a terminal takes nothing
+//! else of the string, whatever the parameters are. [`effect_of`] names what a function does where it may not stand.
+//!
+//! Time is linear in the string, for each of twelve ways to receive it.
+#![tactic(auto)]
+
+mod allowed;
+mod beyond;
+mod effect;
+mod effects;
+mod row;
+mod standing;
+mod table;
+
+pub use beyond::{Found, beyond_table};
+pub use effect::{Effect, EffectRow};
+pub use row::{Asking, Head, Numbers, Row, Span, Values};
+pub use standing::Standing;
+pub use table::{effect_of, is_allowed};
