@@ -3,7 +3,7 @@
 
     docs/functions.py [--write]
 
-prints both, or writes them."""
+prints them, or writes them; `rt fmt` in the crate lays them out then."""
 
 import re
 import sys
@@ -230,10 +230,16 @@ def names() -> str:
     return NAMES.format(variants=", ".join(found), rows=rows)
 
 
+def made() -> dict[Path, str]:
+    """The text of each file, before `rt fmt` lays it out."""
+    found = {"src/allowed.rt": allowed(), "src/effects.rt": effects(), "src/standing.rt": standing(), "specs/Names.antt": names()}
+    return {ROOT / "crates/ti_allow" / name: text for name, text in found.items()}
+
+
 def main() -> None:
-    for name, text in [("src/allowed.rt", allowed()), ("src/effects.rt", effects()), ("src/standing.rt", standing()), ("specs/Names.antt", names())]:
+    for path, text in made().items():
         if "--write" in sys.argv[1:]:
-            (ROOT / "crates/ti_allow" / name).write_text(text)
+            path.write_text(text)
         else:
             print(text, end="")
 
