@@ -72,6 +72,7 @@ PACKAGES: dict[str, tuple[str, ...]] = {
     "qemu-user": ("qemu-aarch64",),
     "lintian": ("lintian",),
     "mypy": ("mypy",),
+    "python3-dev": ("python3-config",),
     "python3-pip": ("pip3",),
 }
 

@@ -4,9 +4,10 @@
     pip install ./python
     python/backend.py LIBRARY MACHINE FOLDER
 
-The first makes it of the library that ./install takes, as the frontends of PEP 517 call it. The second makes it of a shared library
-for a machine, such as x86_64, in a folder, and prints its name; ./package calls it so. What is made of the same files is the same to
-the byte, at the time of SOURCE_DATE_EPOCH.
+The first makes it of the library that ./install takes, as the frontends of PEP 517 call it: with a C compiler and the headers of Python
+3.11 or later it compiles mogyarsu/_ti.c over the archive; without them the wheel has the shared library, which is called by ctypes. The
+second makes it of a shared library, or of a compiled module, for a machine, such as x86_64, in a folder, and prints its name; ./package
+calls it so. What is made of the same files is the same to the byte, at the time of SOURCE_DATE_EPOCH.
 """
 
 import base64
@@ -14,8 +15,10 @@ import hashlib
 import os
 import platform
 import re
+import shutil
 import subprocess
 import sys
+import sysconfig
 import tempfile
 import time
 import tomllib
@@ -26,9 +29,13 @@ HERE = Path(__file__).resolve().parent
 PROJECT = tomllib.loads((HERE / "pyproject.toml").read_text("utf-8"))["project"]
 NAME = f"{PROJECT['name']}-{PROJECT['version']}"
 INFO = f"{NAME}.dist-info"
-MODULES = ["mogyarsu/__init__.py", "mogyarsu/py.typed", "ti.py"]
-# By glibc 2.17 all that the library calls is there, on both machines.
-TAG = "py3-none-manylinux_2_17_"
+COMPILED = "_ti.abi3.so"
+# What every wheel has, and what those have that carry a compiled module or the shared library.
+MODULES = ["mogyarsu/__init__.py", "mogyarsu/__init__.pyi", "mogyarsu/py.typed", "ti.py"]
+OVER_COMPILED, OVER_LIBRARY = ["mogyarsu/_compiled.py"], ["mogyarsu/_by_ctypes.py"]
+# A compiled module is for the stable ABI of Python 3.11. By glibc 2.17 all that the library calls is there, on both machines.
+TAG_OF_COMPILED, TAG_OF_LIBRARY = "cp311-abi3-linux_", "py3-none-manylinux_2_17_"
+OPTIONS = ["-std=c11", "-O2", "-fPIC", "-shared", "-s", "-Wl,--exclude-libs,ALL", "-Wl,--build-id=none", "-Wl,-z,relro,-z,now"]
 METADATA = """Metadata-Version: 2.1
 Name: {name}
 Version: {version}
@@ -45,13 +52,28 @@ def library_name() -> str:
     return str(re.findall(r'^LIBRARY = "(.+)"$', text, re.M)[0])
 
 
+def compile_module(archive: Path, include: Path, made: Path, *options: str) -> bool:
+    """Compiles the module over an archive of the library. Whether there is what that takes."""
+    headers, compiler = Path(sysconfig.get_path("include")), shutil.which(os.environ.get("CC", "cc"))
+    if sys.version_info < (3, 11) or compiler is None or not (headers / "Python.h").exists():
+        return False
+    words: list[str | Path] = [compiler, *OPTIONS, *options, f"-I{include}", f"-I{headers}", HERE / "mogyarsu/_ti.c", archive, "-o", made]
+    subprocess.run(words, check=True)
+    return True
+
+
+def tag_of(library: Path) -> str:
+    return TAG_OF_COMPILED if library.name == COMPILED else TAG_OF_LIBRARY
+
+
 def members(library: Path, machine: str) -> dict[str, bytes]:
     """The files of the wheel by their names, but the list of them."""
-    files = {name: (HERE / name).read_bytes() for name in MODULES}
-    files[f"mogyarsu/{library_name()}"] = library.read_bytes()
+    is_compiled = library.name == COMPILED
+    files = {name: (HERE / name).read_bytes() for name in MODULES + (OVER_COMPILED if is_compiled else OVER_LIBRARY)}
+    files[f"mogyarsu/{COMPILED if is_compiled else library_name()}"] = library.read_bytes()
     description = files[MODULES[0]].decode("utf-8").split('"""')[1]
     files[f"{INFO}/METADATA"] = (METADATA.format_map(PROJECT) + description).encode()
-    files[f"{INFO}/WHEEL"] = f"Wheel-Version: 1.0\nGenerator: mogyarsu\nRoot-Is-Purelib: false\nTag: {TAG}{machine}\n".encode()
+    files[f"{INFO}/WHEEL"] = f"Wheel-Version: 1.0\nGenerator: mogyarsu\nRoot-Is-Purelib: false\nTag: {tag_of(library)}{machine}\n".encode()
     return files
 
 
@@ -66,7 +88,7 @@ def record_of(files: dict[str, bytes]) -> bytes:
 
 def make(library: Path, machine: str, folder: Path) -> str:
     """Makes the wheel in a folder, and returns its name."""
-    name = f"{NAME}-{TAG}{machine}.whl"
+    name = f"{NAME}-{tag_of(library)}{machine}.whl"
     files = members(library, machine)
     files[f"{INFO}/RECORD"] = record_of(files)
     # A zip can hold no time before 1980.
@@ -84,7 +106,10 @@ def build_wheel(wheel_directory: str, config_settings: object = None, metadata_d
     with tempfile.TemporaryDirectory() as scratch:
         settings = {**os.environ, "DESTDIR": scratch, "LIBDIR": "lib", "PYTHONDIR": "lib/python3"}
         subprocess.run([HERE.parent / "install", "/usr"], env=settings, stdout=subprocess.DEVNULL, check=True)
-        return make((Path(scratch) / "usr/lib/libti.so").resolve(), platform.machine(), Path(wheel_directory))
+        installed, made = Path(scratch) / "usr", Path(scratch) / COMPILED
+        if not compile_module(installed / "lib/libti.a", installed / "include", made):
+            made = (installed / "lib/libti.so").resolve()
+        return make(made, platform.machine(), Path(wheel_directory))
 
 
 def main() -> None:

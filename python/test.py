@@ -212,6 +212,89 @@ def test_send() -> None:
     expect(says(mogyarsu.Fault, mogyarsu.send, b"", rate=1000001) is not None, "a rate above the limit")
 
 
+def test_send_kept() -> None:
+    move = mogyarsu.Capability(mogyarsu.Entry(LINUX)["cup"])
+    expect(move.send(4, 9) == b"\x1b[5;10H" and move.send() == b"\x1b[1;1H", "cup, kept and sent")
+    marked = mogyarsu.Capability(b"a$<5>%p1%d$<2*>")
+    expect(marked.send(7) == b"a7" and marked(7) == b"a$<5>7$<2*>", "marks vanish at the rate 0")
+    expect(marked.send(7, rate=1000, affected_lines=2, pad_byte=33) == b"a!!!!!7!!!!" and marked.send(7, rate=1000, xon=True) == b"a7", "pad bytes")
+    made = mogyarsu.Capability(b"%p1%c%p2%c3>")
+    expect(made.send(36, 60, rate=1000) == b"\0\0\0" and made.marked is False, "a mark that the parameters make")
+    variables, store = mogyarsu.Variables(), mogyarsu.Capability(b"%p1%PA%gA%d")
+    expect(store.send(7, variables=variables) == b"7" and variables.values[26] == 7, "variables")
+    expect(says(mogyarsu.Fault, lambda: store.send(8, variables=variables, rate=1000001)) is not None and variables.values[26] == 7,
+           "variables after a fault")
+    expect(mogyarsu.Capability(b"%p1%s$<1>").send("a$<2>b", rate=1000, pad_byte=33) == b"a!!b!", "marks of a text")
+    expect(len(mogyarsu.Capability(b"a" * 3000).send()) == 3000 and len(mogyarsu.Capability(b"$<500>").send(rate=10000)) == 5000, "more room")
+    expect(fault_of(lambda: move.send(*range(10))) == (201, "TooManyParameters", None), "ten parameters")
+    expect(says(TypeError, lambda: move.send(1, None)) == "parameter 2: an int, a str or bytes are wanted, and this is a NoneType", "no parameter")
+    expect(says(TypeError, lambda: move.send(1, colour=2)) is not None, "an argument that nothing has")
+
+
+class Count:
+    """A number that is no int, as those of other modules."""
+
+    def __init__(self, number: int) -> None:
+        self.number = number
+
+    def __index__(self) -> int:
+        if self.number < 0:
+            raise KeyError("below 0")
+        return self.number
+
+
+def test_buffers() -> None:
+    """Bytes of each kind, what changes or fails while it is read, and numbers of other types."""
+    cup = b"\x1b[%i%p1%d;%p2%dH"
+    spread = bytes(byte for byte in cup for _ in range(2))
+    kinds = [bytearray(cup), memoryview(cup), memoryview(bytearray(cup)), memoryview(spread)[::2], type("Bytes", (bytes,), {})(cup)]
+    for kind in kinds:
+        sent = mogyarsu.send(kind, 4, 9), mogyarsu.expand(kind, 4, 9), mogyarsu.Capability(kind)(4, 9), mogyarsu.pad(kind)
+        expect(sent == (b"\x1b[5;10H",) * 3 + (cup,), f"bytes as a {type(kind).__name__}")
+    changing = bytearray(cup)
+    move = mogyarsu.Capability(changing)
+    changing[:] = b"other"
+    expect(move(4, 9) == b"\x1b[5;10H", "bytes that change later")
+    closed = memoryview(cup)
+    closed.release()
+    expect(says(ValueError, mogyarsu.send, closed) is not None and says(ValueError, mogyarsu.expand, b"%p1%s", closed) is not None, "a buffer that is closed")
+    expect(move(Count(4), Count(9)) == b"\x1b[5;10H" and says(KeyError, move, 4, Count(-1)) == "'below 0'", "a number that is no int")
+    expect(says(TypeError, mogyarsu.expand, cup, Count(4)) is not None and says(ValueError, move, 2**70) is not None, "what is no parameter")
+
+
+def grown(call) -> int:
+    """How many blocks of memory are left after a call was made often."""
+    for _ in range(200):
+        call()
+    before = sys.getallocatedblocks()
+    for _ in range(1000):
+        call()
+    return sys.getallocatedblocks() - before
+
+
+def test_counts() -> None:
+    """Nothing is held longer than its use, whether a call returns or raises."""
+    cup, text, values, entry = bytes(bytearray(b"\x1b[%i%p1%d;%p2%dH")), bytes(bytearray(b"abc")), mogyarsu.Variables(), mogyarsu.Entry(LINUX)
+    move = mogyarsu.Capability(cup)
+    held = [cup, text, values, move, entry]
+    counts = [sys.getrefcount(one) for one in held]
+    name = bytes(bytearray(b"cup"))
+    calls = [
+        lambda: mogyarsu.expand(cup, 4, 9), lambda: mogyarsu.send(cup, 4, 9, variables=values, rate=9600), lambda: mogyarsu.expand(b"%p1%s", text),
+        lambda: move(4, 9), lambda: move.send(4, 9), lambda: mogyarsu.Capability(cup).bytes, lambda: mogyarsu.pad(text), lambda: mogyarsu.check(cup),
+        lambda: entry[name], lambda: name in entry, lambda: "nosuch" in entry, lambda: list(entry), lambda: entry.extended(), lambda: entry.names,
+        lambda: mogyarsu.Entry(LINUX)["cup"], lambda: repr(move), lambda: move.__reduce__(), lambda: mogyarsu.expand(b"a" * 3000),
+        lambda: says(TypeError, mogyarsu.expand, cup, text, None), lambda: says(TypeError, mogyarsu.expand, cup, text), lambda: says(ValueError, move, 2**40),
+        lambda: says(mogyarsu.Fault, mogyarsu.expand, b"%z", text), lambda: says(mogyarsu.Fault, mogyarsu.Capability, b"%z"), lambda: says(KeyError, entry.text, "am"),
+        lambda: says(mogyarsu.Fault, mogyarsu.Entry, text), lambda: says(KeyError, entry.__getitem__, "nosuch"), lambda: says(TypeError, mogyarsu.send, cup, variables=text),
+        lambda: says(mogyarsu.Fault, mogyarsu.send, b"%p1%s", *[text] * 12),
+    ]
+    for place, call in enumerate(calls):
+        more = grown(call)
+        expect(more < 900, f"{more} blocks are left by 1000 calls of the kind {place}")
+    expect([sys.getrefcount(one) for one in held] == counts, "references are left")
+
+
 def test_entry() -> None:
     entry = ti.Entry(LINUX)
     expect(entry.names == [b"linux", b"Linux console"], f"names: {entry.names}")
@@ -255,7 +338,7 @@ def test_former_name() -> None:
     expect(ti.Entry is mogyarsu.Entry and ti.expand is mogyarsu.expand and ti.__version__ == mogyarsu.__version__, "ti")
 
 
-for test in (test_mapping, test_wrong_arguments, test_kept, test_read_only, test_first_iteration, test_send, test_entry, test_expand, test_check_and_pad, test_version,
+for test in (test_mapping, test_wrong_arguments, test_kept, test_read_only, test_first_iteration, test_send, test_send_kept, test_buffers, test_counts, test_entry, test_expand, test_check_and_pad, test_version,
              test_former_name):
     test()
 print(f"python: {passed} passed, {failed} failed")
