@@ -151,6 +151,17 @@ static size_t run_ti_expand_kept(const struct item *item) { return expand_kept_w
 
 static size_t run_ti_expand_kept_needed(const struct item *item) { return expand_kept_with(item, item->needed); }
 
+/* What a terminal gets of a capability, over the parameters that it names, at the rate 0. */
+static size_t run_ti_send_needed(const struct item *item) {
+    static ti_terminal terminal;
+    static unsigned char out[2 * ROOM];
+    ti_parameter parameters[MOST_NUMBERS];
+    ti_sent sent;
+    for (int k = 0; k < item->needed; k++) parameters[k] = ti_number(item->numbers[k]);
+    return ti_send((const unsigned char *)item->bytes, item->length, parameters, (size_t)item->needed, &terminal, out, sizeof out, &sent)
+           == TI_DONE;
+}
+
 /* What each expansion of nine parameters costs before the call. */
 static size_t run_call(const struct item *item) {
     ti_parameter parameters[MOST_NUMBERS];
@@ -245,6 +256,7 @@ static const struct {
     {"ti_compile", run_ti_compile},
     {"ti_expand_kept", run_ti_expand_kept},
     {"ti_expand_kept_needed", run_ti_expand_kept_needed},
+    {"ti_send_needed", run_ti_send_needed},
     {"call", run_call},
     {"ti_find", run_ti_find},
     {"ti_view_find", run_ti_view_find},

@@ -284,6 +284,27 @@ static int is_same_expansion(const unsigned char *bytes, size_t length) {
            && memcmp(&vars, &compiled_vars, sizeof vars) == 0;
 }
 
+/* Whether a text is sent as its expansion and its padding in turn have it: for random numbers, variables, rates and rooms. */
+static int is_same_sending(const unsigned char *bytes, size_t length) {
+    ti_parameter parameters[9];
+    ti_terminal terminal = ti_terminal_at(next_random() % 2 ? 2000 : 0);
+    ti_sent sent;
+    unsigned char padded[ROOM], own[ROOM];
+    size_t count = next_random() % 10, room = next_random() % 4 ? ROOM : next_random() % 64, long_as = 0;
+    for (size_t i = 0; i < 9; i++) parameters[i] = ti_number(next_random() % 4 ? random_number() : '$');
+    for (size_t i = 0; i < 52; i++) vars.values[i] = terminal.vars.values[i] = random_number();
+    ti_vars before = vars;
+    uint32_t due = ti_expand(bytes, length, parameters, count, &vars, out, room, &run);
+    size_t place = run.place;
+    if (due == TI_DONE) {
+        due = ti_pad(out, run.written, &terminal.padding, padded, room - run.written, &long_as);
+        place = due == TI_OUT_TOO_SMALL ? run.written + long_as : long_as;
+    }
+    if (ti_send(bytes, length, parameters, count, &terminal, own, room, &sent) != due) return 0;
+    if (due != TI_DONE) return sent.place == place && memcmp(&before, &terminal.vars, sizeof before) == 0;
+    return sent.length == long_as && memcmp(own, padded, long_as) == 0 && memcmp(&vars, &terminal.vars, sizeof vars) == 0;
+}
+
 static void compiles(const char *text) {
     size_t place = 7, length = strlen(text);
     unsigned char *bytes = copy_of(text, length);
@@ -306,7 +327,8 @@ static void add(made_text *made, const char *token) {
 }
 
 static void add_random_token(made_text *made) {
-    static const char *const tokens[] = {"a", ";", "[", "%%", "%i", "%p1", "%p2", "%p3", "%p9", "%d", "%d", "%c", "%02x", "%:-5d",
+    static const char *const tokens[] = {"a", ";", "[", "$", "<1>", "$<2>", "$<1*/>",
+                                         "%%", "%i", "%p1", "%p2", "%p3", "%p9", "%d", "%d", "%c", "%02x", "%:-5d",
                                          "%+", "%-", "%*", "%/", "%m", "%&", "%|", "%^", "%=", "%>", "%<", "%A", "%O", "%!", "%~",
                                          "%{32}", "%'x'", "%Pa", "%ga", "%PZ", "%gZ", "%#o", "%X", "%s", "%p", "%;"};
     add(made, tokens[next_random() % (sizeof tokens / sizeof *tokens - (next_random() % 64 ? 3 : 0))]);
@@ -351,13 +373,14 @@ static void add_random_part(made_text *made, uint32_t tokens, int level) {
 
 /* Capabilities of random tokens: 100000 expansions of those that are compiled, and the faults of the others. */
 static void test_random_capabilities(int level, const char *words) {
-    int same = 1, refused = 1, expansions = 0;
+    int same = 1, sent_same = 1, refused = 1, expansions = 0;
     while (expansions < some_of(100000)) {
         made_text made = {"", 0};
         size_t place = 7;
         add_random_part(&made, next_random() % 40, level);
         const unsigned char *bytes = (const unsigned char *)made.text;
         uint32_t answer = compile(bytes, made.length, &place);
+        for (int i = 0; i < 20; i++) sent_same &= is_same_sending(bytes, made.length);
         if (answer == TI_DONE) {
             int counts = level == 0 || strstr(made.text, "%?") != NULL;
             for (int i = 0; i < 20; i++) same &= is_same_expansion(bytes, made.length);
@@ -367,6 +390,7 @@ static void test_random_capabilities(int level, const char *words) {
         }
     }
     expect(same, words);
+    expect(sent_same, "what is sent is the expansion, padded");
     expect(refused, "those that are refused have the fault of an expansion, and its place");
 }
 
@@ -1368,6 +1392,9 @@ static void test_sending(void) {
     send_fault("%p1%PA%{7}%Pzab$<3>c", ten, 1, 12, TI_OUT_TOO_SMALL, 13, 0);
     expect(send_text("%p1%PA%{7}%Pzab$<3>c", ten, 1, 13) == TI_DONE && sent.length == 6, "the room that is needed");
     expect(terminal.vars.values[25] == 7 && terminal.vars.values[26] == 0, "variables that are set once");
+    send_fault("%p1%PAa$c", ten, 1, 5, TI_OUT_TOO_SMALL, 6, 0);
+    send_fault("%p1%PAabc", ten, 1, 5, TI_OUT_TOO_SMALL, 6, 0);
+    expect(send_text("%{8}%PAabc", ten, 1, 6) == TI_DONE && sent.length == 3 && terminal.vars.values[26] == 8, "the same without a mark");
     terminal.padding.rate = 1000001;
     send_fault("%p1%Pb%z", ten, 10, ROOM, TI_BAD_PADDING, UNWRITTEN_PLACE, 1);
     terminal.padding = padding_of(1000000, 65535, 0, 0);

@@ -1,9 +1,12 @@
 -- Why an output is not sent.
-use Rattle.std.proofs.Common.{◌≡◌, ◌≤◌, ◌+◌, ◌-◌, ◌↔◌, ℕ, ℤ, true, List, Result, Err, length, inl, inr, ◌⊎◌, refl, ap, sym, subst, arith}
+use Rattle.std.proofs.Common.{◌≡◌, ◌≤◌, ◌+◌, ◌-◌, ◌↔◌, ◌∙◌, ℕ, suc, ℤ, Bool, true, false, List, [], ◌∷◌, Result, Err, length, inl, inr, ◌⊎◌, refl, ap, sym, subst, arith, eqb}
+use Rattle.memchr.specs.Find.{Nowhere, Passes, is_byte}
 use Rattle.ti_expand.specs.Expands.{IsBytesFault}
 use Rattle.ti_expand.specs.declared.fault.BytesFault.{BytesFault}
 use Rattle.ti_expand.specs.declared.values.Value.{Value}
+use Rattle.ti_base.specs.Limits.{most_padded_bytes}
 use Rattle.ti_pad.specs.Into.{IsPadIntoFault}
+use Rattle.ti_pad.proofs.PaddedTextLemmas.{padded_text-nil, padded_text-literal, mark_at-plain}
 use Rattle.ti_pad.specs.Padded.{padded_text}
 use Rattle.ti_pad.specs.Setting.{Setting}
 use Rattle.ti_pad.specs.declared.slice.PadIntoFault.{PadIntoFault}
@@ -71,3 +74,23 @@ after_expansion bytes before values given p room number place within few none du
   | inl e ↦ absurd (none_of_expansion bytes values given room number place few none e)
   | inr u ↦ u.1
 ]
+
+-- ---- a text without a mark
+
+is_false : (b : Bool) → ¬ (b ≡ true) → b ≡ false
+is_false true isnt = absurd (isnt refl)
+is_false false isnt = refl
+
+-- with no `$` the padded text is the text
+pub unmarked : (text : List ℕ) (s : Setting) → Nowhere (Passes (is_byte 36) text) 0 (length text) → padded_text text s ≡ text
+unmarked [] s none = padded_text-nil s
+unmarked (byte ∷ rest) s none =
+    let first : eqb byte 36 ≡ false = is_false (eqb byte 36) (none 0 (omega arith) (omega arith)) in
+    let later : Nowhere (Passes (is_byte 36) rest) 0 (length rest) = λ k low high. none (suc k) (omega arith) (omega (arith, high)) in
+    padded_text-literal byte rest s (mark_at-plain byte rest first) ∙ ap (λ (l : List ℕ). byte ∷ l) (unmarked rest s later)
+
+-- such an output is sent if there is room for it twice
+pub unmarked_sent : (output padded : List ℕ) (room number need : ℕ) → padded ≡ output → length output + length output ≤ room → length output ≤ most_padded_bytes
+    → ¬ IsUnsent output padded room number need
+unmarked_sent output padded room number need same enough few (inl (above, n, m)) = omega (arith, above, few, ap length same)
+unmarked_sent output padded room number need same enough few (inr (low, small, n, m)) = omega (arith, small, enough, ap length same)

@@ -2,12 +2,14 @@
 //!
 //! The output is written at the front of the room, and padded after it; then the padded text takes its place.
 
-ghost use Rattle.std.specs.Prelude.{◌≡◌, ◌≤◌, ◌<◌, ◌-◌, ◌⊎◌, ◌↔◌, ℕ, Some, Err, length, take, IfOk, OnErr};
+ghost use Rattle.std.specs.Prelude.{◌≡◌, ◌≤◌, ◌<◌, ◌+◌, ◌-◌, ◌⊎◌, ◌↔◌, ℕ, Err, length, take, IfOk, OnErr};
+ghost use Rattle.std.specs.Bool.{OnTrue};
+ghost use Rattle.ti_base.specs.Limits.{most_padded_bytes};
 ghost use Rattle.ti_cap.specs.Refusal.{IsFaultless};
 ghost use Rattle.ti_expand.specs.Expands.{ForMeaning};
-ghost use Rattle.ti_expand.specs.State.{variable_index};
 ghost use Rattle.ti_pad.specs.Into.{IsPadIntoFault};
 ghost use Rattle.ti_pad.specs.Padded.{padded_text};
+ghost use Rattle.ti_pad.specs.Setting.{Setting};
 ghost use Rattle.ti_c.specs.Numbers.{bad_padding, done, out_too_small, too_many_parameters, too_much};
 ghost use Rattle.ti_c.specs.Given.{values_given};
 ghost use Rattle.ti_c.specs.Sending.{ForPadded, IsSendingFault, IsUnsent};
@@ -15,6 +17,8 @@ ghost use Rattle.ti_c.specs.Sending.{ForPadded, IsSendingFault, IsUnsent};
 use crate::expansion::{Parameter, PlacedRun, ti_expand};
 use crate::faults::{BAD_PADDING, DONE, OUT_TOO_SMALL, TOO_MANY_PARAMETERS, TOO_MUCH};
 use crate::padding::{GivenPadding, padding_of, told_length};
+use memchr::memchr;
+use ti_base::MOST_PADDED_BYTES;
 use ti_expand::{Run, Vars};
 use ti_pad::{PadIntoFault, Padding, pad_into};
 
@@ -48,32 +52,6 @@ fn no_run() -> PlacedRun {
     PlacedRun { counts, place: 0 }
 }
 
-/// The letter of the variable with an index.
-fn letter_at(index: u8) -> u8
-    requires { index < 52 }
-    ensures { variable_index result ≡ Some index }
-{
-    if index < 26 {
-        b'a' + index
-    } else {
-        b'A' + (index - 26)
-    }
-}
-
-/// Other variables with the same numbers.
-fn copy_of(variables: &Vars) -> Vars
-    ensures { result ≡ variables.now }
-{
-    let mut copy = Vars::new();
-    for index in 0..52 {
-        let letter = letter_at(index);
-        if let Some(number) = variables.get(letter) {
-            copy.set(letter, number);
-        }
-    }
-    copy
-}
-
 /// Pads the text at the front of a room, which the padded text replaces. After a fault the room is as before.
 fn pad_at_front(out: &mut [u8], written: usize, padding: &Padding) -> Result<usize, PadIntoFault>
     requires { written ≤ length out.old }
@@ -95,6 +73,35 @@ fn pad_at_front(out: &mut [u8], written: usize, padding: &Padding) -> Result<usi
     Ok(length)
 }
 
+/// Whether no mark is in a text for sure: there is no `$`, with which each mark starts.
+#[inline(always)]
+fn is_unmarked(text: &[u8]) -> bool
+    ensures { OnTrue result ((setting : Setting) → padded_text text.now setting ≡ text.now) }
+{
+    match memchr(b'$', text) {
+        Some(_) => false,
+        None => true,
+    }
+}
+
+/// Whether the output at the front of a room is what is sent, for sure: no mark is in it, and there is room for it once more.
+#[inline(always)]
+fn is_sent_as_it_is(out: &[u8], written: usize) -> bool
+    requires { written ≤ length out.now }
+    ensures room { OnTrue result (written + written ≤ length out.now) }
+    ensures few { OnTrue result (written ≤ most_padded_bytes) }
+    ensures same { OnTrue result ((setting : Setting)
+        → padded_text (take written out.now) setting ≡ take written out.now) }
+{
+    if written > out.len() - written {
+        return false;
+    }
+    if written as u128 > MOST_PADDED_BYTES {
+        return false;
+    }
+    is_unmarked(&out[..written])
+}
+
 /// Pads the output at the front of a room, and returns 0 with the length of the padded text, which replaces it; or the number of
 /// the first fault with the place, and the room is as before.
 fn put_padded(out: &mut [u8], written: usize, padding: &Padding, sent: &mut Sent) -> u32
@@ -112,6 +119,10 @@ fn put_padded(out: &mut [u8], written: usize, padding: &Padding, sent: &mut Sent
     ensures len { result ≡ done → sent.new.length
         ≡ length (padded_text (take written out.old) padding.now) }
 {
+    if is_sent_as_it_is(out, written) {
+        sent.length = written;
+        return DONE;
+    }
     match pad_at_front(out, written, padding) {
         Ok(length) => {
             sent.length = length;
@@ -174,7 +185,7 @@ pub extern "C" fn ti_send<'a>(
     if parameters.len() > 9 {
         return TOO_MANY_PARAMETERS;
     }
-    let before = copy_of(&terminal.variables);
+    let before = terminal.variables.copy();
     let mut run = no_run();
     let fault = ti_expand(
         capability,
