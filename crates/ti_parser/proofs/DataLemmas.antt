@@ -1,7 +1,7 @@
 -- Texts that are data stay so on each path, and what is printed of them is data.
-use Rattle.std.proofs.Common.{◌≡◌, ℕ, zero, suc, ◌-◌, Bool, true, false, ◌||◌, List, [], ◌∷◌, ◌++◌, length, take, replicate, nat_lt, refl, sym, ◌∙◌, subst, arith, ℤ, if◌then◌else◌}
+use Rattle.std.proofs.Common.{◌≡◌, ◌≢◌, ℕ, zero, suc, ◌-◌, Bool, true, false, ◌||◌, List, [], ◌∷◌, ◌++◌, length, take, replicate, nat_lt, refl, sym, ◌∙◌, subst, arith, ℤ, if◌then◌else◌}
 use Rattle.std.proofs.lemmas.Bool.Decides.{nat_tests}
-use Rattle.std.specs.List.{AllByRecursion}
+use Rattle.std.specs.List.{AllByRecursion, list_all}
 use Rattle.std.specs.Prelude.{Option, Some, None}
 use Rattle.ti_cap.specs.declared.language.Conversion.{Conversion}
 use Rattle.ti_cap.specs.declared.language.Conversion.TheVariants.{Text as TextConversion}
@@ -20,9 +20,14 @@ use Rattle.ti_expand.specs.Steps.{meet}
 use Rattle.ti_expand.specs.declared.values.Value.{Value}
 use Rattle.ti_expand.specs.declared.values.Value.TheVariants.{Num, Text}
 use Rattle.ti_parser.specs.Covers.{IsOf, is_one_of}
-use Rattle.ti_parser.specs.Paths.{AreData, IsData, is_data, met_by, written}
-use Rattle.ti_parser.specs.inner.Forms.{count_up, data_bytes}
+use Rattle.ti_parser.specs.Given.{IsData, is_data, may_be}
+use Rattle.ti_parser.specs.Paths.{AreData, met_by, written}
+use Rattle.ti_parser.specs.inner.Forms.{characters, count_up, data_bytes}
+use Rattle.ti_parser.specs.declared.reading.FirstCharacter.{FirstCharacter}
+use Rattle.ti_parser.specs.declared.reading.FirstCharacter.TheVariants.{Any, Printable, Designator}
+use Rattle.ti_parser.proofs.DigitLemmas.{front_holds, rest_holds}
 use Rattle.ti_parser.proofs.FormLemmas.{in_count, of_both, of_same, one_left, one_right}
+use Rattle.ti_parser.proofs.LeadLemmas.{each_one}
 
 -- ---- values
 
@@ -79,7 +84,7 @@ data_met k m fails s h = by (is_running m || is_running (next_mode m k fails))
 
 -- ---- prints
 
-low_data : (b : ℕ) → is_data b ≡ true → is_one_of data_bytes b ≡ true
+pub low_data : (b : ℕ) → is_data b ≡ true → is_one_of data_bytes b ≡ true
 low_data b e = by (nat_lt b 63) refl
   where
     by : (t : Bool) → nat_lt b 63 ≡ t → is_one_of data_bytes b ≡ true
@@ -123,3 +128,22 @@ written_data k f s e c h =
     let P : Token → Type 0 = λ x. IsOf data_bytes (written x s) in
     let Q : Conversion → Type 0 = λ x. IsOf data_bytes (print_for x f s.stack) in
     subst P (sym e) (subst Q (sym c) (printed_data f s.stack h.stack))
+
+-- ---- bytes
+
+all_true : (p : ℕ → Bool) (xs : List ℕ) → list_all p xs ≡ true → AllByRecursion (λ x. p x ≡ true) xs
+all_true p [] e = tt
+all_true p (x ∷ xs) e = (front_holds (p x) (list_all p xs) e, all_true p xs (rest_holds (p x) (list_all p xs) e))
+
+in_data : (b : ℕ) → is_one_of data_bytes b ≡ true → is_data b ≡ true
+in_data b e = each_one (λ x. is_data x ≡ true) data_bytes b (all_true is_data data_bytes refl) e
+
+pub all_data : (t : List ℕ) → IsOf data_bytes t → AllByRecursion (λ byte. is_data byte ≡ true) t
+all_data [] h = tt
+all_data (b ∷ t) h = (in_data b h.0, all_data t h.1)
+
+-- a first parameter is one of its bytes
+pub one_character : (character : FirstCharacter) (b : ℕ) → character ≢ Any → may_be character b ≡ true → is_one_of (characters character) b ≡ true
+one_character Any b other e = absurd (other refl)
+one_character Printable b other e = low_data b e
+one_character Designator b other e = in_count 48 79 b (grind (arith, nat_tests, e)) (grind (arith, nat_tests, e))

@@ -42,7 +42,7 @@ decoded-digit coding begun within byte h = grind (arith, nat_tests)
 low-digit : (byte : ℕ) → is_digit byte ≡ true → nat_lt byte 0x20 ≡ false
 low-digit byte h = grind (arith, nat_tests)
 
-none_of : (a b : Bool) → a && (false && b) ≡ false
+pub none_of : (a b : Bool) → a && (false && b) ≡ false
 none_of true b = refl
 none_of false b = refl
 

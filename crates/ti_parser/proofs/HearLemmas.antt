@@ -16,6 +16,7 @@ use Rattle.ti_parser.specs.declared.padding.Part.{Part}
 use Rattle.ti_parser.specs.declared.padding.Part.TheVariants.{Dollar}
 use Rattle.ti_parser.specs.declared.padding.Turn.{Turn}
 use Rattle.ti_parser.specs.declared.padding.Turn.TheVariants.{Holds, Ends, Breaks}
+use Rattle.ti_parser.specs.declared.reading.FirstCharacter.{FirstCharacter}
 use Rattle.ti_parser.specs.declared.reading.Reading.{Reading}
 use Rattle.ti_parser.specs.declared.reading.Reception.{Reception}
 use Rattle.ti_parser.specs.declared.receiver.Ahead.{Ahead}
@@ -30,7 +31,7 @@ use Rattle.ti_parser.proofs.SetLemmas.{sent_both}
 -- ---- joined bytes
 
 -- a byte of which so much is left, and more bytes
-abbrev heard_on : Reception → List ℕ → Hearing → Left → List ℕ → Heard
+abbrev pub heard_on : Reception → List ℕ → Hearing → Left → List ℕ → Heard
 heard_on r rest x left bytes =
     let now = run r.reading x.parser left.bytes in
     let more = hear r rest (record { front = left.front; parser = now.configuration }) bytes in
@@ -96,7 +97,7 @@ comes_next marks Closed byte rest h = some_closes marks rest (is_close byte) h
 comes_next marks Unclosed byte rest h = none_closes marks rest (is_close byte) h
 comes_next marks (Unmarked part) byte rest h = comes_by marks (turn_of marks part byte) byte rest h
 
-untouched-completes : (part : Part) (rest : List ℕ) → completes Untouched part rest ≡ false
+pub untouched-completes : (part : Part) (rest : List ℕ) → completes Untouched part rest ≡ false
 unfolding completes turn_of
 untouched-completes part [] = refl
 untouched-completes part (byte ∷ rest) = refl
@@ -160,27 +161,27 @@ module _ (r : Reception) (rest : List ℕ) (byte : ℕ) (k : Receiver) (x : Hear
   in_any ahead false c e comes m = takes_some ahead comes m
 
 -- what a receiver hears of a byte, by the padding and by where the byte stands
-heard_front : (marks : Marks) (reading : Reading) (rest : List ℕ) (byte : ℕ) (k : Receiver) (x : Hearing) (sent : List Function) (after : List Receiver)
+heard_front : (marks : Marks) (reading : Reading) (first : FirstCharacter) (rest : List ℕ) (byte : ℕ) (k : Receiver) (x : Hearing) (sent : List Function) (after : List Receiver)
     → CoversConfiguration k.parser x.parser → (front : Front) (ahead : Ahead) → ComesAt marks front ahead (byte ∷ rest)
     → (may_begin marks front byte ≡ true → CoverMore (begun k ∷ []) after) → IsMoved reading byte k (move_of marks front ahead byte) sent after
-    → IsHeard (record { reading = reading; marks = marks }) rest after sent (heard_on (record { reading = reading; marks = marks }) rest x (left_of marks front byte rest) [])
+    → IsHeard (record { reading = reading; marks = marks; first_character = first }) rest after sent (heard_on (record { reading = reading; marks = marks; first_character = first }) rest x (left_of marks front byte rest) [])
 unfolding completes
-heard_front marks reading rest byte k x sent after parser (Mark part) ahead h b m =
-    in_mark (record { reading = reading; marks = marks }) rest byte k x sent after parser (turn_of marks part byte) h m
-heard_front Untouched reading rest byte k x sent after parser Literal ahead h b m =
-    takes_some (record { reading = reading; marks = Untouched }) rest byte k x sent after parser (next_ahead Untouched ahead byte) (comes_next Untouched ahead byte rest h) m
-heard_front Tputs reading rest byte k x sent after parser Literal ahead h b m =
-    takes_some (record { reading = reading; marks = Tputs }) rest byte k x sent after parser (next_ahead Tputs ahead byte) (comes_next Tputs ahead byte rest h) m
-heard_front TiPad reading rest byte k x sent after parser Literal ahead h b m =
-    takes_some (record { reading = reading; marks = TiPad }) rest byte k x sent after parser (next_ahead TiPad ahead byte) (comes_next TiPad ahead byte rest h) m
-heard_front Untouched reading rest byte k x sent after parser Text ahead h b m =
-    in_any (record { reading = reading; marks = Untouched }) rest byte k x sent after parser (next_ahead Untouched ahead byte) (is_dollar byte) (completes Untouched Dollar rest)
+heard_front marks reading first rest byte k x sent after parser (Mark part) ahead h b m =
+    in_mark (record { reading = reading; marks = marks; first_character = first }) rest byte k x sent after parser (turn_of marks part byte) h m
+heard_front Untouched reading first rest byte k x sent after parser Literal ahead h b m =
+    takes_some (record { reading = reading; marks = Untouched; first_character = first }) rest byte k x sent after parser (next_ahead Untouched ahead byte) (comes_next Untouched ahead byte rest h) m
+heard_front Tputs reading first rest byte k x sent after parser Literal ahead h b m =
+    takes_some (record { reading = reading; marks = Tputs; first_character = first }) rest byte k x sent after parser (next_ahead Tputs ahead byte) (comes_next Tputs ahead byte rest h) m
+heard_front TiPad reading first rest byte k x sent after parser Literal ahead h b m =
+    takes_some (record { reading = reading; marks = TiPad; first_character = first }) rest byte k x sent after parser (next_ahead TiPad ahead byte) (comes_next TiPad ahead byte rest h) m
+heard_front Untouched reading first rest byte k x sent after parser Text ahead h b m =
+    in_any (record { reading = reading; marks = Untouched; first_character = first }) rest byte k x sent after parser (next_ahead Untouched ahead byte) (is_dollar byte) (completes Untouched Dollar rest)
     (untouched-completes Dollar rest) (comes_next Untouched ahead byte rest h) m
-heard_front Tputs reading rest byte k x sent after parser Text ahead h b m =
-    in_text (record { reading = reading; marks = Tputs }) rest byte k x sent after parser Literal (next_ahead Tputs ahead byte) (is_dollar byte) (completes Tputs Dollar rest)
+heard_front Tputs reading first rest byte k x sent after parser Text ahead h b m =
+    in_text (record { reading = reading; marks = Tputs; first_character = first }) rest byte k x sent after parser Literal (next_ahead Tputs ahead byte) (is_dollar byte) (completes Tputs Dollar rest)
     (λ e. e) (λ e. e) (comes_next Tputs ahead byte rest h) b m
-heard_front TiPad reading rest byte k x sent after parser Text ahead h b m =
-    in_text (record { reading = reading; marks = TiPad }) rest byte k x sent after parser Text (next_ahead TiPad ahead byte) (is_dollar byte) (completes TiPad Dollar rest)
+heard_front TiPad reading first rest byte k x sent after parser Text ahead h b m =
+    in_text (record { reading = reading; marks = TiPad; first_character = first }) rest byte k x sent after parser Text (next_ahead TiPad ahead byte) (is_dollar byte) (completes TiPad Dollar rest)
     (λ e. e) (λ e. e) (comes_next TiPad ahead byte rest h) b m
 
 pub lead_heard : (r : Reception) (byte : ℕ) (k : Receiver) (sent : List Function) (after : List Receiver)
@@ -189,5 +190,5 @@ pub lead_heard : (r : Reception) (byte : ℕ) (k : Receiver) (sent : List Functi
 unfolding hear
 lead_heard r byte k sent after b m rest x (inl h) =
     let P : Front → Type 0 = λ f. IsHeard r rest after sent (heard_on r rest x (left_of r.marks f byte rest) []) in
-    subst P h.front (heard_front r.marks r.reading rest byte k x sent after h.parser k.front k.ahead h.ahead b m)
+    subst P h.front (heard_front r.marks r.reading r.first_character rest byte k x sent after h.parser k.front k.ahead h.ahead b m)
 lead_heard r byte k sent after b m rest x (inr h) = absurd h

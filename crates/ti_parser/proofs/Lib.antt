@@ -12,5 +12,6 @@ pub mod PrintLemmas
 pub mod RunLemmas
 pub mod SetLemmas
 pub mod SettledLemmas
+pub mod SpreadLemmas
 pub mod TextLemmas
 pub mod TopsLemmas

@@ -1,7 +1,6 @@
 -- What a pass knows of all paths between two tokens, and at the end.
 use Rattle.std.proofs.Common.{◌≡◌, ℕ, zero, suc, ◌+◌, ◌<◌, ◌≤◌, List, [], ◌∷◌, ◌++◌, true, false, length, arith, take, get_or, refl, sym, ◌∙◌, ap, subst, append_assoc, ℤ, inl, inr}
 use Rattle.std.proofs.lemmas.List.{append-nil, take_more}
-use Rattle.std.specs.List.{AllByRecursion}
 use Rattle.ti_cap.specs.declared.language.Token.{Token}
 use Rattle.ti_cap.specs.declared.mode.Mode.{Mode}
 use Rattle.ti_cap.specs.declared.mode.Mode.TheVariants.{Run as RunMode, ToElse, ToEnd}
@@ -19,12 +18,13 @@ use Rattle.ti_expand.specs.State.{State, start}
 use Rattle.ti_expand.specs.Steps.{meet}
 use Rattle.ti_expand.specs.declared.values.Value.{Value}
 use Rattle.ti_parser.specs.Covers.{IsCovered, IsRunCovered}
+use Rattle.ti_parser.specs.Given.{AreGiven}
 use Rattle.ti_parser.specs.Machine.{Run, ground}
 use Rattle.ti_parser.specs.inner.Receivers.{Comes, ComesAt, CoverMore, CoversMoment, IsAmong, Moment, can_end, ends_text, hear, outside}
-use Rattle.ti_parser.specs.Paths.{AreData, IsData, IsKnown, IsOutputCovered, Known, KnowsOn, Leads, Point, Waiting, fresh}
+use Rattle.ti_parser.specs.Paths.{AreData, IsKnown, IsOutputCovered, Known, KnowsOn, Leads, Point, Waiting, fresh}
 use Rattle.ti_parser.specs.declared.function.Function.{Function}
 use Rattle.ti_parser.specs.declared.reading.Reception.{Reception}
-use Rattle.ti_parser.specs.Tops.{AreTops, no_tops}
+use Rattle.ti_parser.specs.Tops.{AreTops, tops_at_start}
 use Rattle.ti_parser.specs.declared.tops.Tops.{Tops}
 use Rattle.ti_parser.proofs.CoversLemmas.{covers_configuration}
 use Rattle.ti_parser.specs.declared.configuration.Configuration.{Configuration}
@@ -45,21 +45,21 @@ pub record IsAt (reading : Reception) (bytes : List ℕ) (spot : Spot) (known : 
   pub whole_is : whole spot ≡ bytes
   pub before : List Token
   pub taken : Written before spot.taken
-  pub known_all : (variables : List ℤ) (parameters : List Value) → AreVariables variables → AllByRecursion IsData parameters → (mode : Mode) (s : State)
+  pub known_all : (variables : List ℤ) (parameters : List Value) → AreVariables variables → AreGiven reading.first_character parameters → (mode : Mode) (s : State)
       → Reaches (λ x k. meet k x) (start variables parameters) before mode s → AreData s × IsKnown reading known mode s
 
-pub at_start : (r : Reception) (bytes : List ℕ) (known : Known) → known.opens ≡ [] → CoverMore (outside ∷ []) known.here.parsers → known.here.tops ≡ no_tops → IsAt r bytes (record { taken = []; left = bytes }) known
+pub at_start : (r : Reception) (bytes : List ℕ) (known : Known) → known.opens ≡ [] → CoverMore (outside ∷ []) known.here.parsers → known.here.tops ≡ tops_at_start r.first_character → IsAt r bytes (record { taken = []; left = bytes }) known
 unfolding hear
 at_start r bytes known e m t = record {
   whole_is = refl;
   before = [];
   taken = refl;
-  known_all = λ v p numbers texts mode s h.
+  known_all = λ v p numbers given mode s h.
       let P : State → Type 0 = λ x. AreData x × IsKnown r known mode x in
       let Q : Mode → Type 0 = λ x. IsKnown r known x (start v p) in
       let R : Tops → Type 0 = λ x. AreTops x (start v p) in
       subst P (same_start v p mode s h)
-      (record { variables = numbers.count; stack = tt; parameters = texts }, subst Q (sym h.passes.1) (λ rest. record { ends = m _ (inl (record { front = refl; ahead = tt; parser = covers_configuration ground })); sends = tt }, subst R (sym t) (record { stack = record { first = tt; second = tt; third = tt; fourth = tt }; variables = record { first = tt; second = tt; third = tt; fourth = tt } })));
+      (record { variables = numbers.count; stack = tt; parameters = given.texts }, subst Q (sym h.passes.1) (λ rest. record { ends = m _ (inl (record { front = refl; ahead = tt; parser = covers_configuration ground })); sends = tt }, subst R (sym t) (record { stack = record { first = refl; second = refl; third = refl; fourth = refl }; variables = record { first = tt; second = tt; third = tt; fourth = tt }; parameter = given.character })));
 }
   where
     same_start : (v : List ℤ) (p : List Value) (mode : Mode) (s : State) → (h : Reaches (λ x k. meet k x) (start v p) [] mode s) → start v p ≡ s
@@ -72,9 +72,9 @@ at_next r bytes spot new k known more (s, spelled, left, taken) h on =
       whole_is = ap (λ x. x ++ new.left) taken ∙ append_assoc spot.taken s new.left ∙ ap (λ x. spot.taken ++ x) (sym left) ∙ h.whole_is;
       before = h.before ++ k ∷ [];
       taken = subst P (sym taken) (written-append h.before (k ∷ []) spot.taken s h.taken (written_one k s spelled));
-      known_all = λ v p numbers texts mode y reach.
+      known_all = λ v p numbers given mode y reach.
           let c : Came (λ x t. meet t x) (Reaches (λ x t. meet t x) (start v p) h.before) k mode y = came_from (λ x t. meet t x) (start v p) h.before k mode y reach in
-          let old : AreData c.old × IsKnown r known c.source c.old = h.known_all v p numbers texts c.source c.old c.comes in
+          let old : AreData c.old × IsKnown r known c.source c.old = h.known_all v p numbers given c.source c.old c.comes in
           let Q : Mode → Type 0 = λ m. AreData y × IsKnown r more m y in
           let R : State → Type 0 = λ x. AreData x × IsKnown r more (next_mode c.source k c.fails) x in
           subst Q c.leads (subst R (sym c.gives) (data_met k c.source c.fails c.old old.0, on c.source c.old c.fails old.0 old.1));
@@ -85,9 +85,9 @@ same_state s [] = refl
 same_state s (k ∷ path) = same_state (meet k s) path
 
 pub at_end : (r : Reception) (bytes : List ℕ) (spot : Spot) (known : Known) → IsAt r bytes spot known → spot.left ≡ [] → (tree : Sequence) (path : List Token) → Writes tree bytes → IsPath tree path
-    → (variables : List ℤ) (parameters : List Value) → AreVariables variables → AllByRecursion IsData parameters
+    → (variables : List ℤ) (parameters : List Value) → AreVariables variables → AreGiven r.first_character parameters
     → (mode : Mode) × (AreData (state_after path (start variables parameters)) × IsKnown r known mode (state_after path (start variables parameters)))
-at_end r bytes spot known h none tree path w (walk, walked, e) v p numbers texts =
+at_end r bytes spot known h none tree path w (walk, walked, e) v p numbers given =
     let over : Over _ RunMode (tokens tree) walk = walk_passes _ tree walk w.formed walked in
     let P : List ℕ → Type 0 = λ x. Written h.before x in
     let all : spot.taken ≡ bytes = sym (append-nil spot.taken) ∙ ap (λ x. spot.taken ++ x) (sym none) ∙ h.whole_is in
@@ -96,7 +96,7 @@ at_end r bytes spot known h none tree path w (walk, walked, e) v p numbers texts
     let R : State → Type 0 = λ x. AreData x × IsKnown r known over.to x in (
       over.to,
       subst R (ap (λ x. state_of (λ y k. meet k y) (start v p) x) (sym e) ∙ same_state (start v p) path)
-          (h.known_all v p numbers texts over.to _ (subst Q same (record { walk = walk; passes = over.passes; value = refl }))),
+          (h.known_all v p numbers given over.to _ (subst Q same (record { walk = walk; passes = over.passes; value = refl }))),
     )
 
 -- with no conditional open all paths run
@@ -165,8 +165,8 @@ end_none k before never = (λ c h. h, by)
     by m none (inl h) = absurd (cc (can_end_covered k m none h, never))
     by m none (inr h) = absurd h
 
-pub end_all : (xs : List Receiver) (ends : List Configuration) (i : ℕ) → length xs ≤ i → EndMore (take i xs) [] ends → EndMore xs [] ends
-end_all xs ends i high h = let P : List Receiver → Type 0 = λ ys. EndMore ys [] ends in subst P (take-all xs i high) h
+pub end_whole : (xs : List Receiver) (ends : List Configuration) (i : ℕ) → length xs ≤ i → EndMore (take i xs) [] ends → EndMore xs [] ends
+end_whole xs ends i high h = let P : List Receiver → Type 0 = λ ys. EndMore ys [] ends in subst P (take-all xs i high) h
   where
     take-all : (ys : List Receiver) (n : ℕ) → length ys ≤ n → take n ys ≡ ys
     take-all [] zero e = refl

@@ -1,7 +1,9 @@
 -- Sets of parsers and of functions.
-use Rattle.std.proofs.Common.{◌≡◌, ℕ, zero, suc, ◌<◌, List, [], ◌∷◌, ◌++◌, ◌⊎◌, inl, inr, length, map, get_or, take, drop, sym, ap, subst, arith}
+use Rattle.std.proofs.Common.{◌≡◌, ℕ, zero, suc, ◌<◌, List, [], ◌∷◌, ◌++◌, ◌⊎◌, inl, inr, length, map, get_or, take, drop, set, sym, ◌∙◌, ap, subst, arith}
 use Rattle.ti_parser.specs.Covers.{AreSent, CoversNumber, CoverNumbers, CoversConfiguration, CoversFunction, IsCovered, SendMore}
-use Rattle.ti_parser.specs.inner.Receivers.{CoverMore, CoversMoment, IsAmong, Moment}
+use Rattle.ti_parser.specs.inner.Receivers.{ComesAt, CoverMore, CoversMoment, IsAmong, Moment}
+use Rattle.ti_parser.specs.declared.padding.Front.{Front}
+use Rattle.ti_parser.specs.declared.padding.Marks.{Marks}
 use Rattle.ti_parser.specs.declared.receiver.Receiver.{Receiver}
 use Rattle.ti_parser.specs.declared.configuration.Configuration.{Configuration}
 use Rattle.ti_parser.specs.declared.function.Function.{Function}
@@ -26,8 +28,14 @@ same_function f g e1 e2 e3 e4 e5 e6 e7 = λ i. record {
 pub same_configuration : (c d : Configuration) → c.state ≡ d.state → c.begun ≡ d.begun → c.number ≡ d.number → c.underway ≡ d.underway → c ≡ d
 same_configuration c d e1 e2 e3 e4 = λ i. record { state = e1 i; begun = e2 i; number = e3 i; underway = e4 i }
 
-pub same_receiver : (k m : Receiver) → k.front ≡ m.front → k.ahead ≡ m.ahead → k.parser ≡ m.parser → k ≡ m
-same_receiver k m e1 e2 e3 = λ i. record { front = e1 i; ahead = e2 i; parser = e3 i }
+-- a receiver that knows no more than another
+pub stands : (k m : Receiver) → k.front ≡ m.front → ((marks : Marks) (front : Front) (rest : List ℕ) → ComesAt marks front m.ahead rest → ComesAt marks front k.ahead rest)
+    → k.parser ≡ m.parser → CoverMore (m ∷ []) (k ∷ [])
+stands k m e f g x (inl h) =
+    let P : Front → Type 0 = λ front. ComesAt x.marks front k.ahead x.rest in
+    let Q : Configuration → Type 0 = λ c. CoversConfiguration c x.parser in
+    inl (record { front = e ∙ h.front; ahead = subst P (sym e) (f x.marks m.front x.rest h.ahead); parser = subst Q (sym g) h.parser })
+stands k m e f g x (inr h) = absurd h
 
 -- ---- more parsers
 
@@ -57,6 +65,15 @@ cover_at [] k x low e m h = absurd (omega arith)
 cover_at (y ∷ many) k x low e m (inr h) = absurd h
 cover_at (y ∷ many) zero x low e m (inl h) = let P : Receiver → Type 0 = λ z. CoversMoment z m in inl (subst P e h)
 cover_at (y ∷ many) (suc k) x low e m h = inr (cover_at many k x (omega arith) e m h)
+
+-- one of them is another that covers as much
+pub cover_set : (many : List Receiver) (k : ℕ) (x y : Receiver) → k < length many → x ≡ get_or many k x → ((m : Moment) → CoversMoment x m → CoversMoment y m)
+    → CoverMore many (set many k y)
+cover_set [] k x y low e f m h = absurd h
+cover_set (z ∷ many) zero x y low e f m (inl h) = let P : Receiver → Type 0 = λ w. CoversMoment w m in inl (f m (subst P (sym e) h))
+cover_set (z ∷ many) zero x y low e f m (inr h) = inr h
+cover_set (z ∷ many) (suc k) x y low e f m (inl h) = inl h
+cover_set (z ∷ many) (suc k) x y low e f m (inr h) = inr (cover_set many k x y (omega arith) e f m h)
 
 -- what one receiver more covers
 pub split_last : (few : List Receiver) (x : Receiver) (m : Moment) → IsAmong (few ++ x ∷ []) m → IsAmong few m ⊎ CoversMoment x m

@@ -23,7 +23,7 @@ use Rattle.ti_parser.specs.declared.state.State.TheVariants.{Ground}
 use Rattle.ti_parser.proofs.DigitLemmas.{front_holds, rest_holds}
 
 -- a class of printable bytes
-is_graphic : ByteClass → Bool
+unfoldable pub is_graphic : ByteClass → Bool
 is_graphic Intermediate = true
 is_graphic Digit = true
 is_graphic Separator = true
@@ -31,11 +31,11 @@ is_graphic Marker = true
 is_graphic Final = true
 is_graphic class = false
 
-class-printable : (byte : ℕ) → is_printable byte ≡ true → is_graphic (class_of byte) ≡ true
+pub class-printable : (byte : ℕ) → is_printable byte ≡ true → is_graphic (class_of byte) ≡ true
 unfolding class_of is_graphic
 class-printable byte h = grind (arith, nat_tests)
 
-decoded-printable : (coding : Coding) (begun : Begun) (within : Bool) (byte : ℕ) → is_printable byte ≡ true
+pub decoded-printable : (coding : Coding) (begun : Begun) (within : Bool) (byte : ℕ) → is_printable byte ≡ true
     → decoded coding begun within byte ≡ record { symbol = Plain byte; begun = Nothing }
 unfolding decoded
 decoded-printable coding begun within byte h = grind (arith, nat_tests)

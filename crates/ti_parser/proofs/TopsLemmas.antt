@@ -1,43 +1,47 @@
--- The numbers that are known stay so with each token.
-use Rattle.std.proofs.Common.{◌≡◌, ◌≢◌, ℕ, ◌+◌, ◌-◌, ◌<◌, ◌≤◌, Bool, true, false, ◌||◌, List, ◌∷◌, length, ℤ, ap, refl, sym, subst, ◌∙◌, arith, get_or-set_same, get_or-set_other}
+-- What is known of values stays so with each token.
+use Rattle.std.proofs.Common.{◌≡◌, ◌≢◌, ℕ, ◌+◌, ◌-◌, ◌<◌, ◌≤◌, Bool, true, false, ◌||◌, List, [], ◌∷◌, length, ℤ, ap, refl, sym, subst, ◌∙◌, arith, get_or-set_same, get_or-set_other}
 use Rattle.std.proofs.lemmas.Bool.Decides.{nat_tests}
 use Rattle.std.specs.Prelude.{Option, Some, None, ◌==◌, if◌then◌else◌}
 use Rattle.ti_cap.specs.declared.language.Op.{Op}
 use Rattle.ti_cap.specs.declared.language.Op.TheVariants.{Not, BitNot}
 use Rattle.ti_cap.specs.declared.language.Token.{Token}
 use Rattle.ti_cap.specs.declared.language.Token.TheVariants.{Byte, Param, Constant, Store, Load, Length, Compute, Increment, Char, Print, CondOpen, CondThen, CondElse, CondClose}
-use Rattle.ti_expand.specs.Effect.{after_operation, combine, complement, flag_number, is_zero}
+use Rattle.ti_expand.specs.Effect.{after_operation, char_byte, combine, complement, flag_number, is_zero}
 use Rattle.ti_expand.specs.Meaning.{after_test}
-use Rattle.ti_expand.specs.State.{State, number_on, variable_at, variable_index, with_variable_at, without_top}
+use Rattle.ti_expand.specs.State.{State, number_on, parameter, variable_at, variable_index, with_variable_at, without_top}
 use Rattle.ti_expand.specs.Steps.{meet}
 use Rattle.ti_expand.specs.declared.values.Value.{Value}
-use Rattle.ti_expand.specs.declared.values.Value.TheVariants.{Num}
+use Rattle.ti_expand.specs.declared.values.Value.TheVariants.{Num, Text}
 use Rattle.ti_parser.specs.Characters.{is_between}
+use Rattle.ti_parser.specs.Given.{first_byte, may_be}
 use Rattle.ti_parser.specs.Paths.{AreData}
 use Rattle.ti_parser.specs.declared.names.Names.{Names}
 use Rattle.ti_parser.specs.declared.names.Stored.{Stored}
-use Rattle.ti_parser.specs.Tops.{AreOnTop, AreStored, AreTops, IsStored, IsTop, combined, computed, is_variable, negated, number_at, number_in, other_than, popped, pushed, stored_as, tops_after, turned}
+use Rattle.ti_parser.specs.Tops.{AreOnTop, AreStored, AreTops, IsStored, IsTop, combined, computed, is_variable, known, negated, number_at, number_in, number_of, other_than, parameter_top, popped, pushed, stored_as, tops_after, turned, unknown}
+use Rattle.ti_parser.specs.declared.reading.FirstCharacter.{FirstCharacter}
+use Rattle.ti_parser.specs.declared.tops.Top.{Top}
+use Rattle.ti_parser.specs.declared.tops.Top.TheVariants.{Number, Printed}
 use Rattle.ti_parser.specs.declared.tops.Tops.{Tops}
 
 pub tops_popped : (t : Tops) (stack : List Value) → AreOnTop t stack → AreOnTop (popped t) (without_top stack)
-tops_popped t stack h = record { first = h.second; second = h.third; third = h.fourth; fourth = tt }
+tops_popped t stack h = record { first = h.second; second = h.third; third = h.fourth; fourth = refl }
 
-tops_pushed : (t : Tops) (stack : List Value) (value : Option ℤ) (v : Value) → IsTop value (v ∷ stack) → AreOnTop t stack → AreOnTop (pushed value t) (v ∷ stack)
+tops_pushed : (t : Tops) (stack : List Value) (value : Top) (v : Value) → IsTop value (v ∷ stack) → AreOnTop t stack → AreOnTop (pushed value t) (v ∷ stack)
 tops_pushed t stack value v e h = record { first = e; second = h.first; third = h.second; fourth = h.third }
 
-negated_top : (value : Option ℤ) (stack : List Value) (v : Value) (rest : List Value) → number_on (v ∷ rest) ≡ flag_number (is_zero (number_on stack)) → IsTop value stack → IsTop (negated value) (v ∷ rest)
-negated_top None stack v rest e h = tt
-negated_top (Some n) stack v rest e h = e ∙ ap (λ x. flag_number (is_zero x)) h
+negated_top : (value : Top) (stack : List Value) (v : Value) (rest : List Value) → number_on (v ∷ rest) ≡ flag_number (is_zero (number_on stack)) → IsTop value stack → IsTop (negated value) (v ∷ rest)
+negated_top (Printed character) stack v rest e h = refl
+negated_top (Number n) stack v rest e h = e ∙ ap (λ x. flag_number (is_zero x)) h
 
-turned_top : (value : Option ℤ) (stack : List Value) (v : Value) (rest : List Value) → number_on (v ∷ rest) ≡ complement (number_on stack) → IsTop value stack → IsTop (turned value) (v ∷ rest)
-turned_top None stack v rest e h = tt
-turned_top (Some n) stack v rest e h = e ∙ ap complement h
+turned_top : (value : Top) (stack : List Value) (v : Value) (rest : List Value) → number_on (v ∷ rest) ≡ complement (number_on stack) → IsTop value stack → IsTop (turned value) (v ∷ rest)
+turned_top (Printed character) stack v rest e h = refl
+turned_top (Number n) stack v rest e h = e ∙ ap complement h
 
-combined_top : (op : Op) (left right : Option ℤ) (stack : List Value) (v : Value) (rest : List Value) → number_on (v ∷ rest) ≡ combine op (number_on (without_top stack)) (number_on stack)
+combined_top : (op : Op) (left right : Top) (stack : List Value) (v : Value) (rest : List Value) → number_on (v ∷ rest) ≡ combine op (number_on (without_top stack)) (number_on stack)
     → IsTop left (without_top stack) → IsTop right stack → IsTop (combined op left right) (v ∷ rest)
-combined_top op None right stack v rest e h g = tt
-combined_top op (Some l) None stack v rest e h g = tt
-combined_top op (Some l) (Some r) stack v rest e h g = e ∙ ap (λ x. combine op x (number_on stack)) h ∙ ap (combine op l) g
+combined_top op (Printed character) right stack v rest e h g = refl
+combined_top op (Number l) (Printed character) stack v rest e h g = refl
+combined_top op (Number l) (Number r) stack v rest e h g = e ∙ ap (λ x. combine op x (number_on stack)) h ∙ ap (combine op l) g
 
 tops_computed : (op : Op) (t : Tops) (stack : List Value) → AreOnTop t stack → AreOnTop (computed op t) (after_operation op stack)
 tops_computed Not t stack h = tops_pushed (popped t) (without_top stack) (negated t.first) _ (negated_top t.first stack _ (without_top stack) refl h.first) (tops_popped t stack h)
@@ -105,8 +109,8 @@ number_in_is names letter variables h =
     number_at_is names.first letter _ variables h.first (number_at_is names.second letter _ variables h.second
     (number_at_is names.third letter _ variables h.third (number_at_is names.fourth letter None variables h.fourth tt)))
 
-number_top : (value : Option ℤ) (letter : ℕ) (variables : List ℤ) (stack : List Value) → NumberIs value letter variables → IsTop value (Num (variable_at variables (variable_index letter)) ∷ stack)
-number_top None letter variables stack h = tt
+number_top : (value : Option ℤ) (letter : ℕ) (variables : List ℤ) (stack : List Value) → NumberIs value letter variables → IsTop (known value) (Num (variable_at variables (variable_index letter)) ∷ stack)
+number_top None letter variables stack h = refl
 number_top (Some n) letter variables stack h = h
 
 others_stay : (known : Option Stored) (letter : ℕ) (n : ℤ) (variables : List ℤ) → IsStored known variables
@@ -127,39 +131,70 @@ first_stored (Some m) letter n variables e h = by (is_variable letter) refl
     by true v = same_index variables letter n e v ∙ h m refl
     by false v = tt
 
-top_is : (value : Option ℤ) (stack : List Value) → IsTop value stack → (m : ℤ) → value ≡ Some m → number_on stack ≡ m
-top_is value stack h m e = let P : Option ℤ → Type 0 = λ x. IsTop x stack in subst P e h
+abbrev IsNumber : Option ℤ → List Value → Type 0
+IsNumber None stack = Unit {0}
+IsNumber (Some n) stack = number_on stack ≡ n
+
+top_is : (value : Top) (stack : List Value) → IsTop value stack → (m : ℤ) → number_of value ≡ Some m → number_on stack ≡ m
+top_is (Number n) stack h m e = let P : Option ℤ → Type 0 = λ x. IsNumber x stack in subst P e h
+top_is (Printed character) stack h m e = absurd (cc)
 
 names_computed : (op : Op) (t : Tops) (variables : List ℤ) → AreStored t.names variables → AreStored (computed op t).names variables
 names_computed Not t variables h = h
 names_computed BitNot t variables h = h
 names_computed op t variables h = h
 
+parameter_computed : (op : Op) (t : Tops) (byte : ℕ) → may_be t.parameter byte ≡ true → may_be (computed op t).parameter byte ≡ true
+parameter_computed Not t byte h = h
+parameter_computed BitNot t byte h = h
+parameter_computed op t byte h = h
+
+-- ---- the first parameter
+
+number_alone : (v : Value) (below other : List Value) → number_on (v ∷ below) ≡ number_on (v ∷ other)
+number_alone (Num n) below other = refl
+number_alone (Text t) below other = refl
+
+parameter_known : (which : ℕ) (character : FirstCharacter) (ps stack : List Value) → may_be character (first_byte ps) ≡ true
+    → IsTop (parameter_top which character) (parameter ps which ∷ stack)
+parameter_known which character ps stack h = by (which == 1) refl
+  where
+    by : (t : Bool) → (which == 1) ≡ t → IsTop (if t then Printed character else unknown) (parameter ps which ∷ stack)
+    by true e =
+        let same : which ≡ 1 = grind (arith, nat_tests, e) in
+        let P : ℕ → Type 0 = λ x. may_be character (char_byte (number_on (parameter ps x ∷ stack))) ≡ true in
+        subst P (sym same) (ap (λ n. may_be character (char_byte n)) (number_alone (parameter ps 1) stack []) ∙ h)
+    by false e = refl
+
+-- ---- a token
+
 pub tops_tested : (t : Tops) (s : State) → AreTops t s → AreTops (popped t) (after_test s)
-tops_tested t s h = record { stack = tops_popped t s.stack h.stack; variables = h.variables }
+tops_tested t s h = record { stack = tops_popped t s.stack h.stack; variables = h.variables; parameter = h.parameter }
 
 pub tops_meet : (k : Token) (s : State) (t : Tops) → AreData s → AreTops t s → AreTops (tops_after k t) (meet k s)
-tops_meet (Byte b) s t d h = record { stack = h.stack; variables = h.variables }
-tops_meet (Param p) s t d h = record { stack = tops_pushed t s.stack None _ tt h.stack; variables = h.variables }
-tops_meet (Constant n) s t d h = record { stack = tops_pushed t s.stack (Some n) _ refl h.stack; variables = h.variables }
+tops_meet (Byte b) s t d h = record { stack = h.stack; variables = h.variables; parameter = h.parameter }
+tops_meet (Param p) s t d h = record { stack = tops_pushed t s.stack (parameter_top p t.parameter) _ (parameter_known p t.parameter s.parameters s.stack h.parameter) h.stack; variables = h.variables; parameter = h.parameter }
+tops_meet (Constant n) s t d h = record { stack = tops_pushed t s.stack (Number n) _ refl h.stack; variables = h.variables; parameter = h.parameter }
 tops_meet (Store v) s t d h = record {
   stack = let o : AreOnTop (popped t) (without_top s.stack) = tops_popped t s.stack h.stack in record { first = o.first; second = o.second; third = o.third; fourth = o.fourth };
   variables = record {
-    first = first_stored t.first v (number_on s.stack) s.variables d.variables (top_is t.first s.stack h.stack.first);
+    first = first_stored (number_of t.first) v (number_on s.stack) s.variables d.variables (top_is t.first s.stack h.stack.first);
     second = others_stay t.names.first v (number_on s.stack) s.variables h.variables.first;
     third = others_stay t.names.second v (number_on s.stack) s.variables h.variables.second;
     fourth = others_stay t.names.third v (number_on s.stack) s.variables h.variables.third;
   };
+  parameter = h.parameter;
 }
 tops_meet (Load v) s t d h = record {
-  stack = tops_pushed t s.stack (number_in t.names v) _ (number_top (number_in t.names v) v s.variables s.stack (number_in_is t.names v s.variables h.variables)) h.stack;
+  stack = tops_pushed t s.stack (known (number_in t.names v)) _ (number_top (number_in t.names v) v s.variables s.stack (number_in_is t.names v s.variables h.variables)) h.stack;
   variables = h.variables;
+  parameter = h.parameter;
 }
-tops_meet Length s t d h = record { stack = tops_pushed (popped t) _ None _ tt (tops_popped t s.stack h.stack); variables = h.variables }
-tops_meet (Compute op) s t d h = record { stack = tops_computed op t s.stack h.stack; variables = names_computed op t s.variables h.variables }
-tops_meet Increment s t d h = record { stack = h.stack; variables = h.variables }
-tops_meet Char s t d h = record { stack = tops_popped t s.stack h.stack; variables = h.variables }
-tops_meet (Print f) s t d h = record { stack = tops_popped t s.stack h.stack; variables = h.variables }
+tops_meet Length s t d h = record { stack = tops_pushed (popped t) _ unknown _ refl (tops_popped t s.stack h.stack); variables = h.variables; parameter = h.parameter }
+tops_meet (Compute op) s t d h = record { stack = tops_computed op t s.stack h.stack; variables = names_computed op t s.variables h.variables; parameter = parameter_computed op t _ h.parameter }
+tops_meet Increment s t d h = record { stack = record { first = h.stack.first; second = h.stack.second; third = h.stack.third; fourth = h.stack.fourth }; variables = record { first = h.variables.first; second = h.variables.second; third = h.variables.third; fourth = h.variables.fourth }; parameter = refl }
+tops_meet Char s t d h = record { stack = tops_popped t s.stack h.stack; variables = h.variables; parameter = h.parameter }
+tops_meet (Print f) s t d h = record { stack = tops_popped t s.stack h.stack; variables = h.variables; parameter = h.parameter }
 tops_meet CondOpen s t d h = h
 tops_meet CondThen s t d h = tops_tested t s h
 tops_meet CondElse s t d h = h

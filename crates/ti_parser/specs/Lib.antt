@@ -2,6 +2,7 @@ pub mod Characters
 pub mod Classes
 pub mod Covers
 pub mod Functions
+pub mod Given
 pub mod Laws
 pub mod Machine
 pub mod Numbers

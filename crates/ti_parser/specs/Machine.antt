@@ -40,6 +40,10 @@ abbrev pub entered : State → Configuration → Configuration
 entered next c =
     if is_fresh next then record c { state = next; underway = blank; number = Absent } else record c { state = next }
 
+-- text changes no more than that no character is begun
+abbrev pub after_text : Configuration → Configuration
+after_text c = entered c.state (record c { begun = Nothing })
+
 abbrev pub quiet : Configuration → Step
 quiet c = record { configuration = c; output = nothing }
 

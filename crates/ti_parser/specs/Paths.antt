@@ -1,5 +1,5 @@
 -- What the paths of a capability send.
-use Rattle.std.specs.Prelude.{◌≡◌, ℕ, zero, suc, ◌||◌, Bool, List, [], ◌∷◌, ℤ, length, reverse, if◌then◌else◌, ◌==◌, ◌&&◌, not, true, codes}
+use Rattle.std.specs.Prelude.{◌≡◌, ℕ, zero, suc, ◌||◌, Bool, List, [], ◌∷◌, ℤ, length, reverse, if◌then◌else◌}
 use Rattle.std.specs.List.{AllByRecursion}
 use Rattle.ti_cap.specs.declared.language.Token.{Token}
 use Rattle.ti_cap.specs.declared.language.Token.TheVariants.{Byte, Char, Print}
@@ -16,10 +16,8 @@ use Rattle.ti_expand.specs.StackHeight.{state_after}
 use Rattle.ti_expand.specs.State.{State, number_on, start}
 use Rattle.ti_expand.specs.Steps.{meet}
 use Rattle.ti_expand.specs.declared.values.Value.{Value}
-use Rattle.ti_expand.specs.declared.values.Value.TheVariants.{Num, Text}
-use Rattle.ti_base.specs.Letters.{letter}
-use Rattle.ti_parser.specs.Laws.{is_printable}
 use Rattle.ti_parser.specs.Covers.{IsRunCovered}
+use Rattle.ti_parser.specs.Given.{AreGiven, IsData}
 use Rattle.ti_parser.specs.Machine.{ground, run}
 use Rattle.ti_parser.specs.Tops.{AreTops, no_tops}
 use Rattle.ti_parser.specs.declared.tops.Tops.{Tops}
@@ -35,24 +33,15 @@ use Rattle.ti_parser.specs.inner.Receivers.{Hearing, IsHeard, hear}
 abbrev pub IsOutputCovered : Reception → List Configuration → List Function → State → Type 0
 IsOutputCovered r ends functions s = IsRunCovered ends functions (run r.reading ground (without_marks r.marks s.output))
 
--- from the space to `~`, but no `?`, which makes a string a request
-abbrev pub is_data : ℕ → Bool
-is_data byte = is_printable byte && not (byte == letter (codes "?"))
-
--- a number, or a text of data alone
-abbrev pub IsData : Value → Type 0
-IsData (Num n) = Unit {0}
-IsData (Text text) = AllByRecursion (λ byte. is_data byte ≡ true) text.now
-
--- so it does on each path of the capability that the bytes write, for all variables and parameters whose texts are data
+-- so it does on each path of the capability that the bytes write, for all variables and all parameters that may be given
 abbrev pub IsCover : Reception → List ℕ → List Configuration → List Function → Type 0
 IsCover r bytes ends functions = (tree : Sequence) (path : List Token) → Writes tree bytes → IsPath tree path
-    → (variables : List ℤ) (parameters : List Value) → AreVariables variables → AllByRecursion IsData parameters → IsOutputCovered r ends functions (state_after path (start variables parameters))
+    → (variables : List ℤ) (parameters : List Value) → AreVariables variables → AreGiven r.first_character parameters → IsOutputCovered r ends functions (state_after path (start variables parameters))
 
 -- what covers all paths covers each expansion, whose meaning is that of the path that the tests choose
 abbrev pub CoversExpansions : Type 0
 CoversExpansions = (r : Reception) (bytes : List ℕ) (ends : List Configuration) (functions : List Function) → IsCover r bytes ends functions
-    → (tree : Sequence) → Writes tree bytes → (variables : List ℤ) (parameters : List Value) → AreVariables variables → AllByRecursion IsData parameters
+    → (tree : Sequence) → Writes tree bytes → (variables : List ℤ) (parameters : List Value) → AreVariables variables → AreGiven r.first_character parameters
     → IsOutputCovered r ends functions (meaning tree (start variables parameters))
 
 -- ---- one pass

@@ -22,6 +22,14 @@ is_header StringStart = false
 is_header StringBody = false
 is_header state = true
 
+-- a byte of data is text alone
+abbrev pub is_text : State → Bool
+is_text Ground = true
+is_text DeviceIgnore = true
+is_text SystemBody = true
+is_text StringBody = true
+is_text state = false
+
 -- a string is underway
 abbrev pub is_string : State → Bool
 is_string Ground = false

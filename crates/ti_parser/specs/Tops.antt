@@ -1,22 +1,32 @@
--- The numbers on top of a stack and in variables that are known, and what a token makes of them.
-use Rattle.std.specs.Prelude.{◌≡◌, ◌==◌, ◌||◌, ℕ, Bool, List, ℤ, Option, Some, None, if◌then◌else◌}
+-- What is known of the values on top of a stack and in variables, and what a token makes of it.
+use Rattle.std.specs.Prelude.{◌≡◌, ◌==◌, ◌||◌, ℕ, Bool, List, ℤ, Option, Some, None, true, if◌then◌else◌}
 use Rattle.ti_cap.specs.declared.language.Op.{Op}
 use Rattle.ti_cap.specs.declared.language.Op.TheVariants.{Not, BitNot}
 use Rattle.ti_cap.specs.declared.language.Token.{Token}
-use Rattle.ti_cap.specs.declared.language.Token.TheVariants.{Param, Constant, Store, Load, Length, Compute, Char, Print, CondThen}
-use Rattle.ti_expand.specs.Effect.{combine, complement, flag_number, is_zero}
+use Rattle.ti_cap.specs.declared.language.Token.TheVariants.{Param, Constant, Store, Load, Length, Compute, Increment, Char, Print, CondThen}
+use Rattle.ti_expand.specs.Effect.{char_byte, combine, complement, flag_number, is_zero}
 use Rattle.ti_expand.specs.State.{State, number_on, variable_at, variable_index, without_top}
 use Rattle.ti_expand.specs.declared.values.Value.{Value}
 use Rattle.ti_parser.specs.Characters.{is_between}
+use Rattle.ti_parser.specs.Given.{first_byte, may_be}
 use Rattle.ti_parser.specs.declared.names.Names.{Names}
 use Rattle.ti_parser.specs.declared.names.Stored.{Stored}
+use Rattle.ti_parser.specs.declared.reading.FirstCharacter.{FirstCharacter}
+use Rattle.ti_parser.specs.declared.reading.FirstCharacter.TheVariants.{Any}
+use Rattle.ti_parser.specs.declared.tops.Top.{Top}
+use Rattle.ti_parser.specs.declared.tops.Top.TheVariants.{Number, Printed}
 use Rattle.ti_parser.specs.declared.tops.Tops.{Tops}
 
-abbrev pub IsTop : Option ℤ → List Value → Type 0
-IsTop None stack = Unit {0}
-IsTop (Some n) stack = number_on stack ≡ n
+-- the number on top, or the byte that `%c` prints of it
+abbrev pub IsTop : Top → List Value → Type 0
+IsTop (Number n) stack = number_on stack ≡ n
+IsTop (Printed character) stack = may_be character (char_byte (number_on stack)) ≡ true
 
--- each number that is known is what a pop at its place gives
+-- nothing is known
+abbrev pub unknown : Top
+unknown = Printed Any
+
+-- what is known of each place is so of what a pop there gives
 pub record AreOnTop (tops : Tops) (stack : List Value) : Type 0 where
   pub first : IsTop tops.first stack
   pub second : IsTop tops.second (without_top stack)
@@ -35,6 +45,14 @@ pub record AreStored (names : Names) (variables : List ℤ) : Type 0 where
   pub second : IsStored names.second variables
   pub third : IsStored names.third variables
   pub fourth : IsStored names.fourth variables
+
+abbrev pub known : Option ℤ → Top
+known None = unknown
+known (Some n) = Number n
+
+abbrev pub number_of : Top → Option ℤ
+number_of (Number n) = Some n
+number_of (Printed character) = None
 
 abbrev pub no_names : Names
 no_names = record { first = None; second = None; third = None; fourth = None }
@@ -68,33 +86,43 @@ stored letter value n = record {
   fourth = other_than letter n.third;
 }
 
--- ---- both
+-- ---- all of it
 
 -- what is known of a state
 pub record AreTops (tops : Tops) (s : State) : Type 0 where
   pub stack : AreOnTop tops s.stack
   pub variables : AreStored tops.names s.variables
+  pub parameter : may_be tops.parameter (first_byte s.parameters) ≡ true
+
+-- before any token only the first parameter is known
+abbrev pub tops_at_start : FirstCharacter → Tops
+tops_at_start character =
+    record { first = unknown; second = unknown; third = unknown; fourth = unknown; names = no_names; parameter = character }
 
 abbrev pub no_tops : Tops
-no_tops = record { first = None; second = None; third = None; fourth = None; names = no_names }
+no_tops = tops_at_start Any
 
 abbrev pub popped : Tops → Tops
-popped t = record { first = t.second; second = t.third; third = t.fourth; fourth = None; names = t.names }
+popped t = record { first = t.second; second = t.third; third = t.fourth; fourth = unknown; names = t.names; parameter = t.parameter }
 
-abbrev pub pushed : Option ℤ → Tops → Tops
-pushed value t = record { first = value; second = t.first; third = t.second; fourth = t.third; names = t.names }
+abbrev pub pushed : Top → Tops → Tops
+pushed value t = record { first = value; second = t.first; third = t.second; fourth = t.third; names = t.names; parameter = t.parameter }
 
-abbrev pub negated : Option ℤ → Option ℤ
-negated None = None
-negated (Some n) = Some (flag_number (is_zero n))
+abbrev pub negated : Top → Top
+negated (Number n) = Number (flag_number (is_zero n))
+negated value = unknown
 
-abbrev pub turned : Option ℤ → Option ℤ
-turned None = None
-turned (Some n) = Some (complement n)
+abbrev pub turned : Top → Top
+turned (Number n) = Number (complement n)
+turned value = unknown
 
-abbrev pub combined : Op → Option ℤ → Option ℤ → Option ℤ
-combined op (Some left) (Some right) = Some (combine op left right)
-combined op left right = None
+abbrev pub combined : Op → Top → Top → Top
+combined op (Number left) (Number right) = Number (combine op left right)
+combined op left right = unknown
+
+-- only the first parameter is known
+abbrev pub parameter_top : ℕ → FirstCharacter → Top
+parameter_top which character = if which == 1 then Printed character else unknown
 
 abbrev pub computed : Op → Tops → Tops
 computed Not t = pushed (negated t.first) (popped t)
@@ -102,12 +130,14 @@ computed BitNot t = pushed (turned t.first) (popped t)
 computed op t = pushed (combined op t.second t.first) (popped (popped t))
 
 abbrev pub tops_after : Token → Tops → Tops
-tops_after (Constant n) t = pushed (Some n) t
-tops_after (Param which) t = pushed None t
-tops_after (Load variable) t = pushed (number_in t.names variable) t
-tops_after (Store variable) t = record (popped t) { names = stored variable t.first t.names }
-tops_after Length t = pushed None (popped t)
+tops_after (Constant n) t = pushed (Number n) t
+tops_after (Param which) t = pushed (parameter_top which t.parameter) t
+tops_after (Load variable) t = pushed (known (number_in t.names variable)) t
+tops_after (Store variable) t = record (popped t) { names = stored variable (number_of t.first) t.names }
+tops_after Length t = pushed unknown (popped t)
 tops_after (Compute op) t = computed op t
+-- `%i` adds 1 to the first parameter, so it is no longer what was given
+tops_after Increment t = record t { parameter = Any }
 tops_after Char t = popped t
 tops_after (Print format) t = popped t
 tops_after CondThen t = popped t

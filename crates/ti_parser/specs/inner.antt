@@ -2,3 +2,4 @@
 pub mod Forms
 pub mod Paths
 pub mod Receivers
+pub mod Texts

@@ -5,7 +5,7 @@ ghost use Rattle.std.specs.Bool.{OnTrue};
 ghost use Rattle.ti_parser.specs.Covers.{CoversConfiguration};
 ghost use Rattle.ti_parser.specs.Functions.{escape, nothing, only};
 ghost use Rattle.ti_parser.specs.Numbers.{with_digit};
-ghost use Rattle.ti_parser.specs.Machine.{act, added_hex, anew, collected, complete, entered, goes_on, ground, hexed, introduced, is_ignored, is_introducer, is_swallowed, marked, moved, named, next_by_character, opened, plain, put, separated, step, system_named, taken, with_character};
+ghost use Rattle.ti_parser.specs.Machine.{act, added_hex, after_text, anew, collected, complete, entered, goes_on, ground, hexed, introduced, is_ignored, is_introducer, is_swallowed, marked, moved, named, next_by_character, opened, plain, put, separated, step, system_named, taken, with_character};
 
 use crate::character::{Begun, Symbol, decode};
 use crate::class::class_of;
@@ -121,6 +121,16 @@ impl Configuration {
             underway: self.underway.duplicate(),
             number: self.number,
         }
+    }
+
+    /// The configuration after a byte of text.
+    pub(crate) fn after_text(&self) -> Configuration
+        ensures { result ≡ after_text self.now }
+    {
+        let mut next = self.duplicate();
+        next.begun = Begun::Nothing;
+        next.enter(self.state);
+        next
     }
 
     /// Whether it is the same configuration.

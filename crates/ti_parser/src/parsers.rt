@@ -14,19 +14,19 @@ use crate::reading::Reception;
 use crate::receiver::{Ahead, Move, Receiver, may_begin, move_of};
 use std::alloc::{AllocError, Allocator};
 
-/// Whether one of the parsers is the same.
+/// Whether one of the parsers stands for another.
 fn has(parsers: &[Receiver], parser: &Receiver) -> bool
     ensures { OnTrue result (CoverMore (parser.now ∷ []) parsers.now) }
 {
     for known in parsers {
-        if known.is_same(parser) {
+        if known.stands_for(parser) {
             return true;
         }
     }
     false
 }
 
-/// Whether each of these parsers is the same as one of the others.
+/// Whether one of the parsers stands for each of the others.
 fn has_all(parsers: &[Receiver], others: &[Receiver]) -> bool
     ensures { OnTrue result (CoverMore others.now parsers.now) }
 {
@@ -38,8 +38,11 @@ fn has_all(parsers: &[Receiver], others: &[Receiver]) -> bool
     true
 }
 
-/// Adds a parser, if there is none that is the same.
-fn insert<A: Allocator>(parsers: &mut Vec<Receiver, A>, parser: Receiver) -> Result<(), AllocError>
+/// Adds a parser, if none stands for it.
+pub(crate) fn insert<A: Allocator>(
+    parsers: &mut Vec<Receiver, A>,
+    parser: Receiver,
+) -> Result<(), AllocError>
     ensures kept { OnOk result (CoverMore parsers.old.items parsers.new.items) }
     ensures held { OnOk result (CoverMore (parser ∷ []) parsers.new.items) }
 {
@@ -64,6 +67,16 @@ pub(crate) fn insert_all<A: Allocator>(
         insert(parsers, parser)?;
     }
     Ok(())
+}
+
+/// Notes the place of a token for each parser that it takes out of the ground state.
+pub(crate) fn note_places(parsers: &mut [Receiver], place: usize)
+    ensures more { CoverMore parsers.old parsers.new }
+    ensures len { length parsers.new ≡ length parsers.old }
+{
+    for parser in parsers.iter_mut() {
+        parser.note_place(place);
+    }
 }
 
 /// How many functions are looked at before one is added.
@@ -284,7 +297,7 @@ pub(crate) fn unite<A: Allocator>(
 }
 
 /// The parsers after any of these bytes.
-fn step_any<A: Allocator + Copy>(
+pub(crate) fn step_any<A: Allocator + Copy>(
     alloc: A,
     reception: Reception,
     parsers: &[Receiver],

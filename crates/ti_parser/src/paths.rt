@@ -5,7 +5,7 @@ ghost use Rattle.ti_cap.specs.declared.mode.Mode.{Mode};
 ghost use Rattle.ti_expand.specs.State.{State};
 ghost use Rattle.ti_parser.specs.Paths.{AreData, IsCover, IsKnown, KnowsOn, Leads, nothing_waits};
 ghost use Rattle.ti_parser.specs.inner.Receivers.{CoverMore, can_end, ends_text, outside};
-ghost use Rattle.ti_parser.specs.Tops.{no_tops, popped};
+ghost use Rattle.ti_parser.specs.Tops.{popped, tops_at_start};
 ghost use Rattle.ti_parser.specs.declared.paths.Outcome.TheVariants as outcome;
 ghost use Rattle.ti_parser.specs.declared.reading.Reception.{Reception};
 ghost use Rattle.ti_parser.specs.inner.Paths.{EndMore, IsLeft, IsTested, IsTurned, LeadsAll};
@@ -13,7 +13,7 @@ ghost use Rattle.ti_parser.specs.inner.Paths.{EndMore, IsLeft, IsTested, IsTurne
 use crate::configuration::Configuration;
 use crate::function::Function;
 use crate::padding::Front;
-use crate::parsers::Lost;
+use crate::parsers::{Lost, note_places};
 use crate::point::{OpenPoints, Point, nowhere, pop_open, push_open, union};
 use crate::reading::Reception;
 use crate::receiver::{Ahead, Receiver};
@@ -120,7 +120,8 @@ impl<A: Allocator + Copy> Paths<A> {
                 Ok(())
             }
             _ => {
-                let parsers = write(alloc, reception, &self.here, token, &mut self.sent)?;
+                let mut parsers = write(alloc, reception, &self.here, token, &mut self.sent)?;
+                note_places(&mut parsers, self.place);
                 self.here = Point {
                     parsers,
                     tops: self.here.tops.after(token),
@@ -150,7 +151,7 @@ impl<A: Allocator + Copy> Paths<A> {
         capability: &Capability<'_>,
     ) -> Result<(), Lost>
         requires here { CoverMore (outside ∷ []) self.old.here.parsers.items }
-        requires tops { self.old.here.tops ≡ no_tops }
+        requires tops { self.old.here.tops ≡ tops_at_start reception.first_character }
         requires opens { self.old.opens.items ≡ [] }
         ensures { OnOk result (LeadsAll reception capability.now self.new.here.parsers.items self.new.sent.items) }
     {
@@ -186,6 +187,8 @@ pub struct Sent<A: Allocator> {
     pub places: Vec<usize, A>,
     /// The configurations in which it can end, if the paths were followed to their ends.
     pub ends: Vec<Configuration, A>,
+    /// For each of these the place in the capability of the token with which the parser last left the ground state, if it is not in it.
+    pub opened: Vec<Option<usize>, A>,
     /// How far the paths were followed.
     pub outcome: Outcome,
 }
@@ -213,30 +216,32 @@ fn can_end(receiver: &Receiver) -> bool
 /// Adds the parser of a receiver, if it may be at the end of a text.
 fn end<A: Allocator>(
     ends: &mut Vec<Configuration, A>,
+    opened: &mut Vec<Option<usize>, A>,
     receiver: &Receiver,
 ) -> Result<(), AllocError>
     ensures { OnOk result (EndMore (receiver.now ∷ []) ends.old.items ends.new.items) }
 {
     if can_end(receiver) {
         ends.push(receiver.parser.duplicate())?;
+        opened.push(receiver.opened)?;
         Ok(())
     } else {
         Ok(())
     }
 }
 
-/// The parsers at the end of a text.
-fn ends_of<A: Allocator>(
-    alloc: A,
+/// Adds the parsers at the end of a text.
+fn end_all<A: Allocator>(
+    ends: &mut Vec<Configuration, A>,
+    opened: &mut Vec<Option<usize>, A>,
     receivers: &[Receiver],
-) -> Result<Vec<Configuration, A>, AllocError>
-    ensures { IfOk result (λ ends. EndMore receivers.now [] ends.items) }
+) -> Result<(), AllocError>
+    ensures { OnOk result (EndMore receivers.now [] ends.new.items) }
 {
-    let mut ends = Vec::new(alloc);
     for receiver in receivers {
-        end(&mut ends, receiver)?;
+        end(ends, opened, receiver)?;
     }
-    Ok(ends)
+    Ok(())
 }
 
 /// The functions that a parser hands out for what a capability writes, and the configurations in which it can end: for all
@@ -247,6 +252,7 @@ pub fn functions_of<A: Allocator + Copy>(
     capability: &Capability<'_>,
 ) -> Result<Sent<A>, AllocError>
     ensures places { IfOk result (λ sent. vec_len sent.places ≡ vec_len sent.functions) }
+    ensures opened { IfOk result (λ sent. vec_len sent.opened ≡ vec_len sent.ends) }
     ensures cover { IfOk result (λ sent. sent.outcome ≡ outcome.Whole
         → IsCover reception capability.now sent.ends.items sent.functions.items) }
 {
@@ -255,7 +261,7 @@ pub fn functions_of<A: Allocator + Copy>(
     let mut paths = Paths {
         here: Point {
             parsers,
-            tops: Tops::none(),
+            tops: Tops::at_start(reception.first_character),
         },
         opens: Vec::new(alloc),
         sent: Vec::new(alloc),
@@ -268,7 +274,10 @@ pub fn functions_of<A: Allocator + Copy>(
         Err(Lost::NotTried) => Outcome::NotTried,
         Err(Lost::Memory(refused)) => return Err(refused),
     };
-    let ends = ends_of(alloc, &paths.here.parsers)?;
+    let mut ends = Vec::new(alloc);
+    let mut opened = Vec::new(alloc);
+    end_all(&mut ends, &mut opened, &paths.here.parsers)?;
+    opened.resize(ends.len(), None)?;
     let functions = paths.sent;
     let mut places = paths.places;
     places.resize(functions.len(), paths.place)?;
@@ -276,6 +285,7 @@ pub fn functions_of<A: Allocator + Copy>(
         functions,
         places,
         ends,
+        opened,
         outcome,
     })
 }

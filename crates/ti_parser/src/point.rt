@@ -7,6 +7,7 @@ ghost use Rattle.ti_parser.specs.Tops.{AreTops, no_tops};
 ghost use Rattle.ti_parser.specs.inner.Paths.{PointMore};
 
 use crate::parsers::{Lost, unite};
+use crate::reading::FirstCharacter;
 use crate::receiver::Receiver;
 use crate::tops::Tops;
 use std::alloc::{AllocError, Allocator};
@@ -17,7 +18,7 @@ use std::marker::Model;
 pub(crate) struct Point<A: Allocator> {
     /// The parsers that they lead to.
     pub parsers: Vec<Receiver, A>,
-    /// Numbers on top of their stacks.
+    /// What is known of their stacks.
     pub tops: Tops,
 }
 
@@ -48,11 +49,11 @@ pub(crate) fn nowhere<A: Allocator>(alloc: A) -> Point<A>
 {
     Point {
         parsers: Vec::new(alloc),
-        tops: Tops::none(),
+        tops: Tops::at_start(FirstCharacter::Any),
     }
 }
 
-/// The numbers that are known on the paths of both.
+/// What is known on the paths of both.
 fn joined_tops<A: Allocator>(left: &Point<A>, right: &Point<A>) -> Tops
     ensures left { (m : Moment) (s : State) → IsAmong left.now.parsers.items m
         → AreTops left.now.tops s → AreTops result s }

@@ -182,35 +182,10 @@ pub(crate) fn print_known<A: Allocator + Copy>(
 }
 
 /// The bytes of data.
-fn data_bytes() -> &'static [u8]
+pub(crate) fn data_bytes() -> &'static [u8]
     ensures { result.now ≡ data_bytes }
 {
     b" !\"#$%&'()*+,-./0123456789:;<=>@ABCDEFGHIJKLMNOPQRSTUVWXYZ[\\]^_`abcdefghijklmnopqrstuvwxyz{|}~"
-}
-
-/// Whether a byte of data is no text for some parser.
-fn is_before_text(here: &[Receiver]) -> bool {
-    here.iter().any(|parser| parser.parser.state.is_header()
-        || parser.parser.state.is_named_by_text())
-}
-
-/// The parsers after a text that is not known.
-pub(crate) fn print_text<A: Allocator + Copy>(
-    alloc: A,
-    reception: Reception,
-    here: &[Receiver],
-    sent: &mut Vec<Function, A>,
-) -> Result<Vec<Receiver, A>, Lost>
-    ensures kept { OnOk result (SendMore sent.old.items sent.new.items) }
-    ensures leads { IfOk result (λ after. (text : List ℕ) → IsOf data_bytes text
-        → Lead reception text here.now sent.new.items after.items) }
-{
-    if is_before_text(here) {
-        return Err(Lost::ComputedByte);
-    }
-    let start = follow(alloc, reception, here, b"", sent)?;
-    let after = step_on(alloc, reception, start, data_bytes(), sent)?;
-    Ok(after)
 }
 
 /// Whether a parser is within a function, so that a letter of a number may end it.

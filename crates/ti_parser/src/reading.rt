@@ -31,6 +31,17 @@ pub struct Reading {
     pub within: Within,
 }
 
+/// What the first parameter of a capability may be, if `%c` prints it as it is given.
+#[derive(Clone, Copy, Debug, PartialEq, Eq)]
+pub enum FirstCharacter {
+    /// Any byte.
+    Any,
+    /// From the space to `~` but no `?`, such as the character that `rep` repeats.
+    Printable,
+    /// From `0` to `~`, such as the final byte by which `S0` designates a character set.
+    Designator,
+}
+
 /// How a terminal receives what a capability is expanded to.
 #[derive(Clone, Copy, Debug, PartialEq, Eq)]
 pub struct Reception {
@@ -38,4 +49,6 @@ pub struct Reception {
     pub reading: Reading,
     /// How padding marks were taken out before.
     pub marks: Marks,
+    /// What the first parameter of the capability may be.
+    pub first_character: FirstCharacter,
 }

@@ -1,14 +1,17 @@
 //! A parser with what is known of the padding marks around it.
 
-ghost use Rattle.std.specs.Prelude.{◌≡◌, ℕ, List, None};
+ghost use Rattle.std.specs.Prelude.{◌≡◌, ◌∷◌, [], ℕ, List, None};
 ghost use Rattle.ti_parser.specs.declared.padding.Front.{Front};
 ghost use Rattle.ti_parser.specs.declared.padding.Marks.{Marks};
 ghost use Rattle.std.specs.Bool.{OnTrue};
+ghost use Rattle.ti_parser.specs.Machine.{after_text};
 ghost use Rattle.ti_parser.specs.Padding.{beyond_dollar};
-ghost use Rattle.ti_parser.specs.inner.Receivers.{ComesAt, CoversMoment, Moment, ahead_by, may_begin, move_of, next_ahead, outside, sends_on, skips_on};
+ghost use Rattle.ti_parser.specs.inner.Texts.{based};
+ghost use Rattle.ti_parser.specs.inner.Receivers.{ComesAt, CoverMore, CoversMoment, Moment, ahead_by, may_begin, move_of, next_ahead, outside, sends_on, skips_on};
 
 use crate::configuration::{Configuration, Detail};
 use crate::padding::{Front, Marks, Part, Turn, turn_of};
+use crate::state::State;
 
 /// What is known of the bytes to come.
 #[derive(Clone, Copy, Debug, PartialEq, Eq)]
@@ -43,6 +46,8 @@ pub(crate) struct Receiver {
     pub ahead: Ahead,
     /// The parser.
     pub parser: Configuration,
+    /// The place of the token with which it left the ground state.
+    pub opened: Option<usize>,
 }
 
 /// What is known after a byte, by what it does to a mark that is none.
@@ -161,6 +166,16 @@ fn reduced(ahead: Ahead, detail: Detail) -> Ahead
     }
 }
 
+/// Whether what is known is known by the other, too.
+fn has_less(ahead: Ahead, other: Ahead) -> bool
+    ensures { OnTrue result ((marks : Marks) (front : Front) (rest : List ℕ) → ComesAt marks front other rest → ComesAt marks front ahead rest) }
+{
+    match ahead {
+        Ahead::Unknown => true,
+        _ => ahead == other,
+    }
+}
+
 impl Receiver {
     ghost use Rattle.ti_parser.specs.declared.receiver.Receiver.{Receiver};
 
@@ -172,6 +187,7 @@ impl Receiver {
             front: Front::Text,
             ahead: Ahead::Unknown,
             parser: Configuration::new(),
+            opened: None,
         }
     }
 
@@ -183,6 +199,7 @@ impl Receiver {
             front,
             ahead,
             parser: self.parser.duplicate(),
+            opened: self.opened,
         }
     }
 
@@ -194,14 +211,38 @@ impl Receiver {
             front: self.front,
             ahead: self.ahead,
             parser: self.parser.duplicate(),
+            opened: self.opened,
         }
     }
 
-    /// Whether it is the same.
-    pub(crate) fn is_same(&self, other: &Receiver) -> bool
-        ensures { OnTrue result (self.now ≡ other.now) }
+    /// The parser after a byte of text, outside of marks.
+    pub(crate) fn after_text(&self) -> Receiver
+        ensures { result ≡ based (record self.now { parser = after_text self.now.parser }) }
     {
-        if self.front != other.front || self.ahead != other.ahead {
+        Receiver {
+            front: Front::Text,
+            ahead: Ahead::Unknown,
+            parser: self.parser.after_text(),
+            opened: self.opened,
+        }
+    }
+
+    /// Notes that the parser left the ground state at this place, if it stands elsewhere and was in it before.
+    pub(crate) fn note_place(&mut self, place: usize)
+        ensures { (m : Moment) → CoversMoment self.old m → CoversMoment self.new m }
+    {
+        self.opened = match (self.parser.state, self.opened) {
+            (State::Ground, _) => None,
+            (_, Some(before)) => Some(before),
+            (_, None) => Some(place),
+        };
+    }
+
+    /// Whether it is the same parser at the same place, and no more is known of the bytes to come than of the other's.
+    pub(crate) fn stands_for(&self, other: &Receiver) -> bool
+        ensures { OnTrue result (CoverMore (other.now ∷ []) (self.now ∷ [])) }
+    {
+        if self.front != other.front || !has_less(self.ahead, other.ahead) {
             return false;
         }
         if !self.parser.is_same(&other.parser) {

@@ -1,7 +1,7 @@
 //! The states of the parser.
 
 ghost use Rattle.std.specs.Prelude.{◌≡◌};
-ghost use Rattle.ti_parser.specs.States.{is_fresh, is_header, is_string};
+ghost use Rattle.ti_parser.specs.States.{is_fresh, is_header, is_string, is_text};
 
 /// Where the parser is.
 #[derive(Clone, Copy, Debug, PartialEq, Eq)]
@@ -72,12 +72,17 @@ impl State {
         }
     }
 
-    /// Whether a byte of a text is no text yet, but says which string it is.
-    pub(crate) fn is_named_by_text(self) -> bool {
-        matches!(
-            self,
-            State::SystemNumber | State::Palette | State::StringStart
-        )
+    /// Whether a byte of data is text alone: outside of functions, and in the body of a string.
+    pub(crate) fn is_text(self) -> bool
+        ensures { result ≡ is_text self }
+    {
+        match self {
+            State::Ground => true,
+            State::DeviceIgnore => true,
+            State::SystemBody => true,
+            State::StringBody => true,
+            _ => false,
+        }
     }
 
     /// Whether a digit is one of a number.

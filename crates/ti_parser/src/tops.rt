@@ -1,81 +1,146 @@
-//! The numbers on top of a stack that are known, whatever the parameters are.
+//! What is known of the values on top of a stack, whatever the parameters are.
 
-ghost use Rattle.std.specs.Prelude.{◌≡◌, List};
+ghost use Rattle.std.specs.Prelude.{◌≡◌, ℕ, List, true};
 ghost use Rattle.ti_expand.specs.State.{State};
+ghost use Rattle.ti_parser.specs.Given.{may_be};
 ghost use Rattle.ti_expand.specs.declared.values.Value.{Value};
-ghost use Rattle.ti_parser.specs.Tops.{AreTops, IsTop, combined, computed, negated, no_tops, popped, pushed, stored, tops_after, turned};
+ghost use Rattle.ti_parser.specs.declared.reading.FirstCharacter.TheVariants as any;
+ghost use Rattle.ti_parser.specs.Tops.{AreTops, IsTop, combined, computed, known, negated, number_of, parameter_top, popped, pushed, stored, tops_after, tops_at_start, turned, unknown};
 
 use crate::names::Names;
+use crate::reading::FirstCharacter;
 use ti_cap::{Op, Token};
 use ti_expand::{apply, complement, logical_not};
 
-/// The numbers in the first four places of a stack, the top first, and in variables, as far as they are known.
+/// What is known of a value.
+#[derive(Clone, Copy)]
+pub(crate) enum Top {
+    /// Its number.
+    Number(i32),
+    /// What `%c` prints of it.
+    Printed(FirstCharacter),
+}
+
+/// What is known of the first four places of a stack, the top first, of variables and of the first parameter.
 #[derive(Clone, Copy)]
 pub(crate) struct Tops {
-    first: Option<i32>,
-    second: Option<i32>,
-    third: Option<i32>,
-    fourth: Option<i32>,
+    first: Top,
+    second: Top,
+    third: Top,
+    fourth: Top,
     names: Names,
+    parameter: FirstCharacter,
+}
+
+/// A value of which nothing is known.
+fn unknown() -> Top
+    ensures { result ≡ unknown }
+{
+    Top::Printed(FirstCharacter::Any)
+}
+
+/// A number, if it is known.
+fn known(number: Option<i32>) -> Top
+    ensures { result ≡ known number }
+{
+    match number {
+        None => unknown(),
+        Some(number) => Top::Number(number),
+    }
+}
+
+/// The number of a value, if it is known.
+fn number_of(value: Top) -> Option<i32>
+    ensures { result ≡ number_of value }
+{
+    match value {
+        Top::Number(number) => Some(number),
+        Top::Printed(_) => None,
+    }
+}
+
+/// A parameter, of which only the first is known.
+fn parameter_top(which: u8, character: FirstCharacter) -> Top
+    ensures { result ≡ parameter_top which character }
+{
+    if which == 1 {
+        Top::Printed(character)
+    } else {
+        unknown()
+    }
 }
 
 /// 1 for 0, else 0.
-fn negated(value: Option<i32>) -> Option<i32>
+fn negated(value: Top) -> Top
     ensures { result ≡ negated value }
 {
     match value {
-        None => None,
-        Some(number) => Some(logical_not(number)),
+        Top::Number(number) => Top::Number(logical_not(number)),
+        Top::Printed(_) => unknown(),
     }
 }
 
 /// Each bit the other way round.
-fn turned(value: Option<i32>) -> Option<i32>
+fn turned(value: Top) -> Top
     ensures { result ≡ turned value }
 {
     match value {
-        None => None,
-        Some(number) => Some(complement(number)),
+        Top::Number(number) => Top::Number(complement(number)),
+        Top::Printed(_) => unknown(),
     }
 }
 
 /// The result of an operation, if both numbers are known.
-fn combined(op: Op, left: Option<i32>, right: Option<i32>) -> Option<i32>
+fn combined(op: Op, left: Top, right: Top) -> Top
     ensures { result ≡ combined op left right }
 {
     match (left, right) {
-        (Some(left), Some(right)) => Some(apply(op, left, right)),
-        _ => None,
+        (Top::Number(left), Top::Number(right)) => Top::Number(apply(op, left, right)),
+        _ => unknown(),
     }
 }
 
-/// A number that is known on all paths of both.
-fn agreed(left: Option<i32>, right: Option<i32>) -> Option<i32>
+/// A character that is known on all paths of both.
+fn shared(left: FirstCharacter, right: FirstCharacter) -> FirstCharacter
+    ensures left { (byte : ℕ) → may_be left byte ≡ true → may_be result byte ≡ true }
+    ensures right { (byte : ℕ) → may_be right byte ≡ true → may_be result byte ≡ true }
+{
+    if left == right {
+        left
+    } else {
+        FirstCharacter::Any
+    }
+}
+
+/// A value that is known on all paths of both.
+fn agreed(left: Top, right: Top) -> Top
     ensures left { (stack : List Value) → IsTop left stack → IsTop result stack }
     ensures right { (stack : List Value) → IsTop right stack → IsTop result stack }
 {
     match (left, right) {
-        (Some(one), Some(other)) if one == other => Some(one),
-        _ => None,
+        (Top::Number(one), Top::Number(other)) if one == other => Top::Number(one),
+        (Top::Printed(one), Top::Printed(other)) => Top::Printed(shared(one, other)),
+        _ => unknown(),
     }
 }
 
 impl Tops {
-    /// No number is known.
-    pub(crate) fn none() -> Tops
-        ensures { result ≡ no_tops }
+    /// Before any token.
+    pub(crate) fn at_start(character: FirstCharacter) -> Tops
+        ensures { result ≡ tops_at_start character }
     {
         Tops {
-            first: None,
-            second: None,
-            third: None,
-            fourth: None,
+            first: unknown(),
+            second: unknown(),
+            third: unknown(),
+            fourth: unknown(),
             names: Names::none(),
+            parameter: character,
         }
     }
 
-    /// The number on top.
-    pub(crate) fn first(self) -> Option<i32>
+    /// The value on top.
+    pub(crate) fn first(self) -> Top
         ensures { result ≡ self.first }
     {
         self.first
@@ -89,13 +154,14 @@ impl Tops {
             first: self.second,
             second: self.third,
             third: self.fourth,
-            fourth: None,
+            fourth: unknown(),
             names: self.names,
+            parameter: self.parameter,
         }
     }
 
     /// After a push.
-    fn pushed(self, value: Option<i32>) -> Tops
+    fn pushed(self, value: Top) -> Tops
         ensures { result ≡ pushed value self }
     {
         Tops {
@@ -104,6 +170,7 @@ impl Tops {
             third: self.second,
             fourth: self.third,
             names: self.names,
+            parameter: self.parameter,
         }
     }
 
@@ -123,10 +190,19 @@ impl Tops {
 
     /// After the top is stored in a variable.
     fn kept(self, letter: u8) -> Tops
-        ensures { result ≡ record (popped self) { names = stored letter self.first self.names } }
+        ensures { result ≡ record (popped self) { names = stored letter (number_of self.first) self.names } }
     {
         let mut tops = self.popped();
-        tops.names = self.names.stored(letter, self.first);
+        tops.names = self.names.stored(letter, number_of(self.first));
+        tops
+    }
+
+    /// After 1 is added to the first two parameters.
+    fn incremented(self) -> Tops
+        ensures { result ≡ record self { parameter = any.Any } }
+    {
+        let mut tops = self;
+        tops.parameter = FirstCharacter::Any;
         tops
     }
 
@@ -135,18 +211,19 @@ impl Tops {
         ensures { result ≡ tops_after token.now self }
     {
         match token {
-            Token::Constant(number) => self.pushed(Some(*number)),
-            Token::Param(_) => self.pushed(None),
-            Token::Load(letter) => self.pushed(self.names.number(*letter)),
+            Token::Constant(number) => self.pushed(Top::Number(*number)),
+            Token::Param(which) => self.pushed(parameter_top(*which, self.parameter)),
+            Token::Load(letter) => self.pushed(known(self.names.number(*letter))),
             Token::Store(letter) => self.kept(*letter),
             Token::Char | Token::Print(_) | Token::CondThen => self.popped(),
-            Token::Length => self.popped().pushed(None),
+            Token::Length => self.popped().pushed(unknown()),
             Token::Compute(op) => self.computed(*op),
+            Token::Increment => self.incremented(),
             _ => self,
         }
     }
 
-    /// The numbers that are known on all paths of both.
+    /// What is known on all paths of both.
     pub(crate) fn joined(self, other: Tops) -> Tops
         ensures left { (s : State) → AreTops self s → AreTops result s }
         ensures right { (s : State) → AreTops other s → AreTops result s }
@@ -157,6 +234,7 @@ impl Tops {
             third: agreed(self.third, other.third),
             fourth: agreed(self.fourth, other.fourth),
             names: self.names.joined(other.names),
+            parameter: shared(self.parameter, other.parameter),
         }
     }
 }

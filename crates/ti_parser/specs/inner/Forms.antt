@@ -5,6 +5,8 @@ use Rattle.ti_cap.specs.declared.language.Conversion.TheVariants.{Signed, LowerH
 use Rattle.ti_cap.specs.declared.language.Format.{Format}
 use Rattle.ti_expand.specs.Printed.{fills_with_zeros, least_count, sign}
 use Rattle.ti_parser.specs.Covers.{IsOf}
+use Rattle.ti_parser.specs.declared.reading.FirstCharacter.{FirstCharacter}
+use Rattle.ti_parser.specs.declared.reading.FirstCharacter.TheVariants.{Any, Printable, Designator}
 
 -- so many numbers from one on
 abbrev pub count_up : ℕ → ℕ → List ℕ
@@ -48,3 +50,9 @@ plus_of f = sign f (pos 0)
 -- the bytes of data
 abbrev pub data_bytes : List ℕ
 data_bytes = count_up 32 31 ++ count_up 64 63
+
+-- the bytes that a first parameter may be, unless it may be any
+abbrev pub characters : FirstCharacter → List ℕ
+characters Any = []
+characters Printable = data_bytes
+characters Designator = count_up 48 79

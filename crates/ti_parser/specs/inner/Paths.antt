@@ -1,6 +1,5 @@
 -- What the tokens of a conditional do to what waits in it.
 use Rattle.std.specs.Prelude.{◌≡◌, ℕ, ℤ, List, [], ◌∷◌, ◌++◌}
-use Rattle.std.specs.List.{AllByRecursion}
 use Rattle.ti_cap.specs.declared.language.Token.{Token}
 use Rattle.ti_cap.specs.Path.{IsPath}
 use Rattle.ti_cap.specs.Spelling.{Writes}
@@ -11,7 +10,8 @@ use Rattle.ti_expand.specs.State.{State, start}
 use Rattle.ti_expand.specs.declared.values.Value.{Value}
 use Rattle.ti_parser.specs.inner.Receivers.{IsAmong, Moment}
 use Rattle.ti_parser.specs.Covers.{IsCovered}
-use Rattle.ti_parser.specs.Paths.{IsData, Leads, Point, Waiting}
+use Rattle.ti_parser.specs.Given.{AreGiven}
+use Rattle.ti_parser.specs.Paths.{Leads, Point, Waiting}
 use Rattle.ti_parser.specs.declared.configuration.Configuration.{Configuration}
 use Rattle.ti_parser.specs.declared.function.Function.{Function}
 use Rattle.ti_parser.specs.declared.reading.Reception.{Reception}
@@ -55,7 +55,7 @@ pub record IsLeft (here : Point) (old : List Waiting) (now : Point) (new : List 
 -- the output of each path leads to one of these parsers
 abbrev pub LeadsAll : Reception → List ℕ → List Receiver → List Function → Type 0
 LeadsAll r bytes parsers sent = (tree : Sequence) (path : List Token) → Writes tree bytes → IsPath tree path
-    → (variables : List ℤ) (parameters : List Value) → AreVariables variables → AllByRecursion IsData parameters → Leads r parsers sent (state_after path (start variables parameters)).output
+    → (variables : List ℤ) (parameters : List Value) → AreVariables variables → AreGiven r.first_character parameters → Leads r parsers sent (state_after path (start variables parameters)).output
 
 -- the parsers of these receivers that may be at the end of a text, and those before, are among the second
 abbrev pub EndMore : List Receiver → List Configuration → List Configuration → Type 0

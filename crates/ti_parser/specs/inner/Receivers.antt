@@ -132,7 +132,7 @@ move_of marks front ahead byte =
 
 -- outside of marks, before any byte
 abbrev pub outside : Receiver
-outside = record { front = Text; ahead = Unknown; parser = ground }
+outside = record { front = Text; ahead = Unknown; parser = ground; opened = None }
 
 -- a byte was the first of a mark
 abbrev pub begun : Receiver → Receiver
@@ -140,7 +140,7 @@ begun known = record known { front = Mark Dollar; ahead = Unknown }
 
 -- the byte was taken
 abbrev pub stepped : Reading → ℕ → Receiver → Front → Ahead → Receiver
-stepped reading byte known front ahead = record { front = front; ahead = ahead; parser = (step reading known.parser byte).configuration }
+stepped reading byte known front ahead = record known { front = front; ahead = ahead; parser = (step reading known.parser byte).configuration }
 
 -- what a move leads to is covered, and what it hands out was sent
 pub record IsSentOn (reading : Reading) (byte : ℕ) (known next : Receiver) (sent : List Function) (after : List Receiver) : Type 0 where

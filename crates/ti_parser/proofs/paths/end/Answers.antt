@@ -2,8 +2,8 @@ use Rattle.std.proofs.Common.{◌++◌, ◌∙◌, [], ◌∷◌, ap, sym}
 use Rattle.ti_parser.proofs.PathsLemmas.{end_more, end_none}
 use Rattle.ti_parser.proofs.paths.end.Goals as goal
 
-pub returns-in_ok-push : goal.returns-in_ok-push
-returns-in_ok-push g c =
+pub returns-in_ok-push-2 : goal.returns-in_ok-push-2
+returns-in_ok-push-2 g c =
     end_more c.args.receiver.now c.args.ends.now.items c.push.new.self.items (c.in_ok-push.ensures.items ∙ ap (λ x. c.args.ends.now.items ++ x ∷ []) c.duplicate.ensures)
 
 pub returns-else-can_end : goal.returns-else-can_end

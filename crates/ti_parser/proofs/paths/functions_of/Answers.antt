@@ -9,11 +9,11 @@ use Rattle.ti_parser.proofs.paths.functions_of.Goals as goal
 
 pub returns-clause-cover : goal.returns-clause-cover
 returns-clause-cover g c =
-    let P : List Receiver → Type 0 = λ x. EndMore x [] c.in_ok-ends.ends.items in
+    let P : List Receiver → Type 0 = λ x. EndMore x [] c.end_all.new.ends.items in
     λ whole. elim c.match-pass.branch [
       | in-Ok w ↦ λ tree path writes is variables parameters numbers texts.
-          leads_end c.args.reception c.pass.new.self.here.parsers.items c.in_ok-ends.ends.items c.pass.new.self.sent.items (state_after path (start variables parameters))
-          (subst P c.deref.ensures.value c.in_ok-ends.ensures) (w.in-Ok.ensures tree path writes is variables parameters numbers texts)
+          leads_end c.args.reception c.pass.new.self.here.parsers.items c.end_all.new.ends.items c.pass.new.self.sent.items (state_after path (start variables parameters))
+          (subst P c.deref.ensures.value c.in_ok-end_all.ensures) (w.in-Ok.ensures tree path writes is variables parameters numbers texts)
       | in-Err-ComputedByte w ↦ absurd (cc (w.outcome-is, whole))
       | in-Err-NotTried w ↦ absurd (cc (w.outcome-is, whole))
     ]

@@ -1,5 +1,5 @@
-use Rattle.ti_parser.proofs.PathsLemmas.{end_all, end_next}
-use Rattle.ti_parser.proofs.paths.ends_of.Goals as goal
+use Rattle.ti_parser.proofs.PathsLemmas.{end_next, end_whole}
+use Rattle.ti_parser.proofs.paths.end_all.Goals as goal
 
 pub loop-receiver-preserved : goal.loop-receiver-preserved
 loop-receiver-preserved g c =
@@ -7,4 +7,4 @@ loop-receiver-preserved g c =
     c.loop-receiver.invariant c.in_ok-end.ensures
 
 pub returns : goal.returns
-returns g c = end_all c.args.receivers.now c.loop-receiver.ends.items c.loop-receiver.receiver-index c.loop-receiver-test.false c.loop-receiver.invariant
+returns g c = end_whole c.args.receivers.now c.loop-receiver.ends.items c.loop-receiver.receiver-index c.loop-receiver-test.false c.loop-receiver.invariant
