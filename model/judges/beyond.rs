@@ -20,7 +20,7 @@ fn told(name: &[u8], found: &Found) -> String {
             format!("{}@{place}={effect}", shown(function))
         }
         Found::ComputedByte => "computed-byte".into(),
-        Found::Open(state) => format!("string-open={state:?}"),
+        Found::Open(state, opened) => format!("string-open={state:?}{}", opened.map_or(String::new(), |place| format!("@{place}"))),
         Found::NotTried => "not-tried".into(),
     }
 }

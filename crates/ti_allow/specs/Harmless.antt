@@ -1,5 +1,6 @@
 -- What a string sends, held against the table.
-use Rattle.std.specs.Prelude.{◌≡◌, ℕ, true, List, [], ◌∷◌, ℤ}
+use Rattle.std.specs.Prelude.{◌≡◌, ℕ, true, List, [], ◌∷◌, ℤ, codes, if◌then◌else◌}
+use Rattle.std.specs.Str.{bytes_eq}
 use Rattle.std.specs.List.{AllByRecursion}
 use Rattle.ti_allow.specs.Rows.{is_allowed}
 use Rattle.ti_allow.specs.declared.row.Row.{Row}
@@ -11,13 +12,15 @@ use Rattle.ti_expand.specs.State.{start}
 use Rattle.ti_expand.specs.declared.values.Value.{Value}
 use Rattle.ti_parser.specs.Machine.{Run, ground, run}
 use Rattle.ti_parser.specs.Padding.{without_marks}
-use Rattle.ti_parser.specs.Paths.{IsData}
+use Rattle.ti_parser.specs.Given.{AreGiven}
 use Rattle.ti_parser.specs.declared.character.Begun.TheVariants.{Nothing}
 use Rattle.ti_parser.specs.declared.configuration.Configuration.{Configuration}
 use Rattle.ti_parser.specs.declared.function.Function.{Function}
 use Rattle.ti_parser.specs.declared.padding.Marks.TheVariants.{Tputs, TiPad}
 use Rattle.ti_parser.specs.declared.reading.Coding.{Coding}
 use Rattle.ti_parser.specs.declared.reading.Coding.TheVariants.{Utf8, Utf8WithC1, Bytes}
+use Rattle.ti_parser.specs.declared.reading.FirstCharacter.{FirstCharacter}
+use Rattle.ti_parser.specs.declared.reading.FirstCharacter.TheVariants.{Any as FirstAny, Printable, Designator}
 use Rattle.ti_parser.specs.declared.reading.Reading.{Reading}
 use Rattle.ti_parser.specs.declared.reading.Reception.{Reception}
 use Rattle.ti_parser.specs.declared.reading.Within.TheVariants.{StartsAnew, GoesOn}
@@ -37,10 +40,16 @@ pub record IsHarmless (rows : List Row) (name : List ℕ) (r : Run) : Type 0 whe
   pub functions : AreAllowed rows name r.functions
   pub end : IsClean r.configuration
 
--- so it is of what a capability sends, for all variables and parameters whose texts are data
+-- what the first parameter of a string is, by its name: `rep` repeats a character (terminfo(5)), and `S0` designates a set of
+-- characters (screen(1))
+abbrev pub first_character : List ℕ → FirstCharacter
+first_character name =
+    if bytes_eq (codes "rep") name then Printable else if bytes_eq (codes "S0") name then Designator else FirstAny
+
+-- so it is of what a capability sends, for all variables and all parameters that may be given
 unfoldable pub OnlyTable : List Row → List ℕ → Reception → List ℕ → Type 0
 OnlyTable rows name r bytes = (tree : Sequence) → Writes tree bytes → (variables : List ℤ) (parameters : List Value)
-    → AreVariables variables → AllByRecursion IsData parameters
+    → AreVariables variables → AreGiven r.first_character parameters
     → IsHarmless rows name (run r.reading ground (without_marks r.marks (meaning tree (start variables parameters)).output))
 
 -- nothing is reported
@@ -51,8 +60,8 @@ IsSilent (found ∷ rest) = ⊥
 -- what the parser takes as ncurses' `tputs` sends it, and as `ti_pad` does, in one reading
 unfoldable pub OnlyTableIn : List Row → List ℕ → Reading → List ℕ → Type 0
 OnlyTableIn rows name reading bytes =
-    OnlyTable rows name (record { reading = reading; marks = Tputs }) bytes
-    × OnlyTable rows name (record { reading = reading; marks = TiPad }) bytes
+    OnlyTable rows name (record { reading = reading; marks = Tputs; first_character = first_character name }) bytes
+    × OnlyTable rows name (record { reading = reading; marks = TiPad; first_character = first_character name }) bytes
 
 -- in each reading of a coding
 unfoldable pub OnlyTableOf : List Row → List ℕ → Coding → List ℕ → Type 0

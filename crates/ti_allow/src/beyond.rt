@@ -3,7 +3,7 @@
 ghost use Rattle.std.specs.Prelude.{◌≡◌, true, IfOk, OnOk};
 ghost use Rattle.std.specs.Bool.{OnTrue};
 ghost use Rattle.std.specs.List.{AllByRecursion};
-ghost use Rattle.ti_allow.specs.Harmless.{AreAllowed, IsClean, IsSilent, OnlyTable, OnlyTableAlways, OnlyTableIn, OnlyTableOf};
+ghost use Rattle.ti_allow.specs.Harmless.{AreAllowed, IsClean, IsSilent, OnlyTable, OnlyTableAlways, OnlyTableIn, OnlyTableOf, first_character};
 ghost use Rattle.ti_allow.specs.Rows.{is_allowed};
 ghost use Rattle.ti_parser.specs.declared.paths.Outcome.TheVariants as outcomes;
 
@@ -12,8 +12,8 @@ use crate::table::is_allowed;
 use std::alloc::{AllocError, Allocator};
 use ti_cap::Capability;
 use ti_parser::{
-    Begun, Coding, Configuration, Function, Marks, Outcome, Reading, Reception, State, Within,
-    functions_of,
+    Begun, Coding, Configuration, FirstCharacter, Function, Marks, Outcome, Reading, Reception,
+    State, Within, functions_of,
 };
 
 /// What a string can send, or do, that is not in the table.
@@ -23,8 +23,8 @@ pub enum Found {
     Function(Function, usize),
     /// A byte that is computed, so that nothing is known of what follows.
     ComputedByte,
-    /// An end within a function or a character.
-    Open(State),
+    /// An end within a function or a character, and the place of the token that opened it, if it is a function.
+    Open(State, Option<usize>),
     /// More forms than are followed.
     NotTried,
 }
@@ -35,7 +35,7 @@ impl Found {
         match (self, other) {
             (Found::Function(one, place), Found::Function(two, its)) => place == its
                 && one.is_same(two),
-            (Found::Open(one), Found::Open(two)) => one == two,
+            (Found::Open(one, place), Found::Open(two, its)) => one == two && place == its,
             (Found::ComputedByte, Found::ComputedByte) | (Found::NotTried, Found::NotTried) => true,
             _ => false,
         }
@@ -98,18 +98,39 @@ fn is_clean(end: &Configuration) -> bool
     end.state == State::Ground && end.begun == Begun::Nothing
 }
 
+/// Adds an end within a function or a character.
+fn add_end<A: Allocator>(
+    found: &mut Vec<Found, A>,
+    end: &Configuration,
+    opened: Option<usize>,
+) -> Result<(), AllocError>
+    ensures before { OnOk result (IsSilent found.new.items → IsSilent found.old.items) }
+    ensures clean { OnOk result (IsSilent found.new.items → IsClean end.now) }
+{
+    if is_clean(end) {
+        return Ok(());
+    }
+    add(found, Found::Open(end.state, opened))
+}
+
+/// Where the end at an index was opened.
+fn opened_at(opened: &[Option<usize>], index: usize) -> Option<usize> {
+    opened.get(index).copied().flatten()
+}
+
 /// Adds the ends within a function or a character.
 fn add_ends<A: Allocator>(
     found: &mut Vec<Found, A>,
     ends: &[Configuration],
+    opened: &[Option<usize>],
 ) -> Result<(), AllocError>
     ensures before { OnOk result (IsSilent found.new.items → IsSilent found.old.items) }
     ensures clean { OnOk result (IsSilent found.new.items → AllByRecursion IsClean ends.now) }
 {
+    let mut index = 0usize;
     'ends: for end in ends {
-        if !is_clean(end) {
-            add(found, Found::Open(end.state))?;
-        }
+        add_end(found, end, opened_at(opened, index))?;
+        index = index.saturating_add(1);
     }
     Ok(())
 }
@@ -139,9 +160,22 @@ fn add_received<A: Allocator + Copy>(
 {
     let sent = functions_of(alloc, reception, capability)?;
     add_functions(found, name, &sent.functions, &sent.places)?;
-    add_ends(found, &sent.ends)?;
+    add_ends(found, &sent.ends, &sent.opened)?;
     add_outcome(found, sent.outcome)?;
     Ok(())
+}
+
+/// What the first parameter of the string with a name may be, if `%c` prints it.
+fn first_character(name: &[u8]) -> FirstCharacter
+    ensures { result ≡ first_character name.now }
+{
+    if name == b"rep".as_slice() {
+        FirstCharacter::Printable
+    } else if name == b"S0".as_slice() {
+        FirstCharacter::Designator
+    } else {
+        FirstCharacter::Any
+    }
 }
 
 /// The same in one reading, without the padding marks that `tputs` of ncurses takes out, and without those of `ti_pad`.
@@ -162,6 +196,7 @@ fn add_read<A: Allocator + Copy>(
         Reception {
             reading,
             marks: Marks::Tputs,
+            first_character: first_character(name),
         },
         name,
         capability,
@@ -172,6 +207,7 @@ fn add_read<A: Allocator + Copy>(
         Reception {
             reading,
             marks: Marks::TiPad,
+            first_character: first_character(name),
         },
         name,
         capability,
