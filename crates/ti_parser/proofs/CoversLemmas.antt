@@ -170,7 +170,7 @@ covers_entered : (next : State) (d c : Configuration) → CoversConfiguration d 
 covers_entered next d c h =
     lifted (λ x y. CoversConfiguration (entered next x) (entered next y)) (λ c ks k h g. entered_if (is_fresh next) next c ks k h g) d c h
 
-covers_complete : (d c : Configuration) → CoversConfiguration d c → CoversFunction (complete d) (complete c)
+pub covers_complete : (d c : Configuration) → CoversConfiguration d c → CoversFunction (complete d) (complete c)
 covers_complete d c h =
     lifted (λ x y. CoversFunction (complete x) (complete y)) (λ c ks k h g. covers_finished k c.number ks c.underway h g) d c h
 
@@ -182,13 +182,13 @@ covers_quiet d c h = record { configuration = h; ended = tt; function = tt }
 covers_gives : (d c : Configuration) (g f : Function) → CoversConfiguration d c → CoversFunction g f → CoversStep (gives d g) (gives c f)
 covers_gives d c g f h e = record { configuration = h; ended = tt; function = e }
 
-covers_go : (next : State) (d c : Configuration) → CoversConfiguration d c → CoversStep (quiet (entered next d)) (quiet (entered next c))
+pub covers_go : (next : State) (d c : Configuration) → CoversConfiguration d c → CoversStep (quiet (entered next d)) (quiet (entered next c))
 covers_go next d c h = covers_quiet (entered next d) (entered next c) (covers_entered next d c h)
 
-covers_give : (next : State) (d c : Configuration) (g f : Function) → CoversConfiguration d c → CoversFunction g f → CoversStep (gives (entered next d) g) (gives (entered next c) f)
+pub covers_give : (next : State) (d c : Configuration) (g f : Function) → CoversConfiguration d c → CoversFunction g f → CoversStep (gives (entered next d) g) (gives (entered next c) f)
 covers_give next d c g f h e = covers_gives (entered next d) (entered next c) g f (covers_entered next d c h) e
 
-covers_if : (a b : Bool) (s t u v : Step) → a ≡ b → CoversStep s u → CoversStep t v → CoversStep (if a then s else t) (if b then u else v)
+pub covers_if : (a b : Bool) (s t u v : Step) → a ≡ b → CoversStep s u → CoversStep t v → CoversStep (if a then s else t) (if b then u else v)
 covers_if true true s t u v e h k = h
 covers_if false false s t u v e h k = k
 covers_if true false s t u v e h k = absurd (cc)

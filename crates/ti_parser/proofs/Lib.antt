@@ -1,4 +1,5 @@
 pub mod BlurLemmas
+pub mod ColorLemmas
 pub mod CoversLemmas
 pub mod DataLemmas
 pub mod DigitLemmas

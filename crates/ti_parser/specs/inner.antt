@@ -1,4 +1,5 @@
 -- What private clauses alone cite.
+pub mod Colors
 pub mod Forms
 pub mod Paths
 pub mod Receivers

@@ -5,6 +5,7 @@ ghost use Rattle.std.specs.Bool.{OnTrue};
 ghost use Rattle.ti_parser.specs.Covers.{CoversConfiguration};
 ghost use Rattle.ti_parser.specs.Functions.{escape, nothing, only};
 ghost use Rattle.ti_parser.specs.Numbers.{with_digit};
+ghost use Rattle.ti_parser.specs.inner.Colors.{with_any_digit, with_color};
 ghost use Rattle.ti_parser.specs.Machine.{act, added_hex, after_text, anew, collected, complete, entered, goes_on, ground, hexed, introduced, is_ignored, is_introducer, is_swallowed, marked, moved, named, next_by_character, opened, plain, put, separated, step, system_named, taken, with_character};
 
 use crate::character::{Begun, Symbol, decode};
@@ -293,6 +294,21 @@ impl Configuration {
         }
     }
 
+    /// Adds the value of a digit to a color of the Linux console.
+    fn add_color(&mut self, next: State, digit: FunctionNumber) -> HandedOut
+        ensures configuration { self.new ≡ (with_color next digit self.old).configuration }
+        ensures output { result ≡ (with_color next digit self.old).output }
+    {
+        self.underway.finish(self.number);
+        self.number = digit;
+        if self.underway.numbers.len() == 6 {
+            let function = self.complete();
+            self.give(State::Ground, function)
+        } else {
+            self.go(next)
+        }
+    }
+
     /// Adds a digit to a color of the Linux console.
     fn add_hex(&mut self, next: State, byte: u8) -> HandedOut
         ensures configuration { self.new ≡ (added_hex next byte self.old).configuration }
@@ -301,14 +317,16 @@ impl Configuration {
         if !is_hex(byte) {
             return self.go(State::Ground);
         }
-        self.underway.finish(self.number);
-        self.number = FunctionNumber::Known(u16::from(hex_value(byte)));
-        if self.underway.numbers.len() == 6 {
-            let function = self.complete();
-            self.give(State::Ground, function)
-        } else {
-            self.go(next)
-        }
+        self.add_color(next, FunctionNumber::Known(u16::from(hex_value(byte))))
+    }
+
+    /// Takes a digit of a color of the Linux console, of which no more is known.
+    pub(crate) fn take_any_digit(&mut self) -> HandedOut
+        ensures configuration { self.new ≡ (with_any_digit self.old).configuration }
+        ensures output { result ≡ (with_any_digit self.old).output }
+    {
+        self.begun = Begun::Nothing;
+        self.add_color(State::Palette, FunctionNumber::Any)
     }
 
     /// Hands out the string that is ended, and a control with it.

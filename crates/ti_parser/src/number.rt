@@ -1,7 +1,8 @@
 //! The numbers of a function.
 
-ghost use Rattle.std.specs.Prelude.{◌≡◌, ◌+◌, ◌++◌, ◌∷◌, ◌<◌, ◌≤◌, List, [], length, slice_get, nat_lt, map};
+ghost use Rattle.std.specs.Prelude.{◌≡◌, ◌+◌, ◌++◌, ◌∷◌, ◌<◌, ◌≤◌, List, [], length, slice_get, nat_lt, map, take};
 ghost use Rattle.std.specs.Bool.{OnTrue};
+ghost use Rattle.ti_parser.specs.inner.Colors.{AreHex};
 ghost use Rattle.ti_parser.specs.Numbers.{bounded, forgotten, hex_value, is_absent, is_hex, most_numbers, with_digit};
 
 use std::marker::Model;
@@ -74,6 +75,19 @@ pub(crate) fn is_hex(byte: u8) -> bool
         b'a'..=b'f' => true,
         _ => false,
     }
+}
+
+/// How many bytes at the start are hexadecimal digits.
+pub(crate) fn count_hex(bytes: &[u8]) -> usize
+    ensures within { result ≤ length bytes.now }
+    ensures hex { AreHex (take result bytes.now) }
+{
+    for at in 0..bytes.len() {
+        if !is_hex(bytes[at]) {
+            return at;
+        }
+    }
+    bytes.len()
 }
 
 /// The value of a hexadecimal digit.

@@ -4,11 +4,15 @@ ghost use Rattle.std.specs.Prelude.{◌≡◌, ◌≤◌, ℕ, List, [], ◌∷�
 ghost use Rattle.std.specs.Bool.{OnTrue};
 ghost use Rattle.ti_parser.specs.Covers.{IsOf, SendMore};
 ghost use Rattle.ti_parser.specs.inner.Receivers.{CoverMore, EachLeads, IsMoved, Lead, begun, may_begin, move_of};
+ghost use Rattle.ti_parser.specs.inner.Colors.{LeadBut};
 ghost use Rattle.ti_parser.specs.Functions.{listed};
+ghost use Rattle.ti_parser.specs.Numbers.{is_hex};
+ghost use Rattle.ti_parser.specs.declared.reading.Reception.{Reception};
 ghost use Rattle.ti_parser.specs.declared.parsers.Lost.TheVariants as lost;
 
 use crate::configuration::Detail;
 use crate::function::{Function, HandedOut};
+use crate::number::count_hex;
 use crate::padding::{Front, Marks, Part};
 use crate::reading::Reception;
 use crate::receiver::{Ahead, Move, Receiver, may_begin, move_of};
@@ -121,6 +125,7 @@ fn send_one<A: Allocator>(
 }
 
 /// Adds what a byte hands out.
+#[inline]
 fn send_all<A: Allocator>(sent: &mut Vec<Function, A>, output: HandedOut) -> Result<(), AllocError>
     ensures kept { OnOk result (SendMore sent.old.items sent.new.items) }
     ensures ended { OnOk result (SendMore (listed output.ended) sent.new.items) }
@@ -296,8 +301,8 @@ pub(crate) fn unite<A: Allocator>(
     Ok(few)
 }
 
-/// The parsers after any of these bytes.
-pub(crate) fn step_any<A: Allocator + Copy>(
+/// The parsers after each of these bytes, in turn.
+fn step_each<A: Allocator + Copy>(
     alloc: A,
     reception: Reception,
     parsers: &[Receiver],
@@ -315,6 +320,97 @@ pub(crate) fn step_any<A: Allocator + Copy>(
     }
     let few = limit(alloc, after)?;
     Ok(few)
+}
+
+/// Whether one of the parsers is in a color of the Linux console.
+fn has_color(parsers: &[Receiver]) -> bool {
+    parsers.iter().any(|parser| parser.is_color())
+}
+
+/// Adds what any hexadecimal digit makes of a receiver that is in a color. A receiver that is in none is added to the others.
+fn hear_color<A: Allocator>(
+    receiver: &Receiver,
+    others: &mut Vec<Receiver, A>,
+    sent: &mut Vec<Function, A>,
+    after: &mut Vec<Receiver, A>,
+) -> Result<(), AllocError>
+    ensures others { OnOk result (CoverMore others.old.items others.new.items) }
+    ensures sent { OnOk result (SendMore sent.old.items sent.new.items) }
+    ensures kept { OnOk result (CoverMore after.old.items after.new.items) }
+    ensures leads { OnOk result ((reception : Reception) (byte : ℕ) → is_hex byte ≡ true
+        → LeadBut reception (byte ∷ []) (receiver.now ∷ []) others.new.items sent.new.items after.new.items) }
+{
+    if receiver.is_color() {
+        let mut next = receiver.duplicate();
+        let output = next.parser.take_any_digit();
+        send_all(sent, output)?;
+        insert(after, next)?;
+        Ok(())
+    } else {
+        insert(others, receiver.duplicate())?;
+        Ok(())
+    }
+}
+
+/// The parsers in a color, after any hexadecimal digit, and the other parsers as they are.
+fn step_colors<A: Allocator + Copy>(
+    alloc: A,
+    parsers: &[Receiver],
+    others: &mut Vec<Receiver, A>,
+    sent: &mut Vec<Function, A>,
+) -> Result<Vec<Receiver, A>, AllocError>
+    ensures kept { OnOk result (SendMore sent.old.items sent.new.items) }
+    ensures leads { IfOk result (λ after. (reception : Reception) (byte : ℕ) → is_hex byte ≡ true
+        → LeadBut reception (byte ∷ []) parsers.now others.new.items sent.new.items after.items) }
+{
+    let mut after = Vec::new(alloc);
+    for parser in parsers {
+        hear_color(parser, others, sent, &mut after)?;
+    }
+    Ok(after)
+}
+
+/// The parsers after any of these bytes. The hexadecimal digits at their start are one step for a parser in a color.
+fn step_digits<A: Allocator + Copy>(
+    alloc: A,
+    reception: Reception,
+    parsers: &[Receiver],
+    bytes: &[u8],
+    sent: &mut Vec<Function, A>,
+) -> Result<Vec<Receiver, A>, Lost>
+    ensures kept { OnOk result (SendMore sent.old.items sent.new.items) }
+    ensures leads { IfOk result
+        (λ after. EachLeads reception bytes.now parsers.now sent.new.items after.items) }
+{
+    let count = count_hex(bytes);
+    let mut others = Vec::new(alloc);
+    let colors = step_colors(alloc, parsers, &mut others, sent)?;
+    let more = step_each(alloc, reception, &others, &bytes[..count], sent)?;
+    let digits = unite(alloc, colors, &more)?;
+    let rest = step_each(alloc, reception, parsers, &bytes[count..], sent)?;
+    let after = unite(alloc, digits, &rest)?;
+    Ok(after)
+}
+
+/// The parsers after any of these bytes.
+pub(crate) fn step_any<A: Allocator + Copy>(
+    alloc: A,
+    reception: Reception,
+    parsers: &[Receiver],
+    bytes: &[u8],
+    sent: &mut Vec<Function, A>,
+) -> Result<Vec<Receiver, A>, Lost>
+    ensures kept { OnOk result (SendMore sent.old.items sent.new.items) }
+    ensures leads { IfOk result
+        (λ after. EachLeads reception bytes.now parsers.now sent.new.items after.items) }
+{
+    if has_color(parsers) && 1 < count_hex(bytes) {
+        let after = step_digits(alloc, reception, parsers, bytes, sent)?;
+        Ok(after)
+    } else {
+        let after = step_each(alloc, reception, parsers, bytes, sent)?;
+        Ok(after)
+    }
 }
 
 /// How often bytes are tried, before they are taken for endless.

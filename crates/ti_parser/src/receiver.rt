@@ -6,6 +6,7 @@ ghost use Rattle.ti_parser.specs.declared.padding.Marks.{Marks};
 ghost use Rattle.std.specs.Bool.{OnTrue};
 ghost use Rattle.ti_parser.specs.Machine.{after_text};
 ghost use Rattle.ti_parser.specs.Padding.{beyond_dollar};
+ghost use Rattle.ti_parser.specs.inner.Colors.{IsColor};
 ghost use Rattle.ti_parser.specs.inner.Texts.{based};
 ghost use Rattle.ti_parser.specs.inner.Receivers.{ComesAt, CoverMore, CoversMoment, Moment, ahead_by, may_begin, move_of, next_ahead, outside, sends_on, skips_on};
 
@@ -249,6 +250,19 @@ impl Receiver {
             return false;
         }
         true
+    }
+
+    /// Whether it is in a color of the Linux console, outside of marks.
+    pub(crate) fn is_color(&self) -> bool
+        ensures { OnTrue result (IsColor self.now) }
+    {
+        match self.parser.state {
+            State::Palette => match (self.front, self.ahead) {
+                (Front::Text, Ahead::Unknown) => true,
+                _ => false,
+            },
+            _ => false,
+        }
     }
 
     /// Forgets numbers, and that no mark comes.

@@ -1,6 +1,6 @@
 use Rattle.std.proofs.Common.{[], ◌∷◌, get_or}
 use Rattle.ti_parser.proofs.LeadLemmas.{cover_same, each_more, each_next, each_whole, lead_more}
-use Rattle.ti_parser.proofs.parsers.step_any.Goals as goal
+use Rattle.ti_parser.proofs.parsers.step_each.Goals as goal
 
 pub loop-byte-preserved : goal.loop-byte-preserved
 loop-byte-preserved g c =

@@ -1,7 +1,7 @@
 use Rattle.std.proofs.Common.{take}
 use Rattle.ti_parser.specs.Covers.{SendMore}
 use Rattle.ti_parser.specs.inner.Receivers.{EachLeads}
-use Rattle.ti_parser.proofs.parsers.step_any.Given as goal
+use Rattle.ti_parser.proofs.parsers.step_each.Given as goal
 
 abbrev pub invariant-loop-byte : goal.invariant-loop-byte
 invariant-loop-byte g l = record {
