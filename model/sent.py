@@ -29,7 +29,7 @@ FIRST = "first"
 FIRST_BYTES = {"rep": [byte for byte in range(0x20, 0x7F) if byte != 0x3F], "S0": list(range(0x30, 0x7F))}
 # What a text that is not known is made of.
 TEXT = [*b"$<>.*/a", DECIMAL]
-# States in which a byte that is not known may be of a function.
+# States in which a text that is not known may be of a function.
 CLOSED = HEADERS | {"osc number", "palette"}
 NUMBERED = {"csi param", "dcs param", "osc number", "palette"}
 
@@ -273,7 +273,7 @@ class Run:
     def print_number(self, places: set[Place], form: Format) -> set[Place]:
         """A number that is not known."""
         is_base_16 = form.conversion in "xX"
-        if is_base_16 and any(place.parser.state in CLOSED - {"palette"} for place in places):
+        if is_base_16 and any(place.parser.state in HEADERS for place in places):
             raise Stopped("computed-byte")
         digits = [OCTAL if form.conversion == "o" else DECIMAL, *(b"abcdef" if form.conversion == "x" else b"ABCDEF" if is_base_16 else b"")]
         has_zeros = "0" in form.flags and "-" not in form.flags and form.precision is None
