@@ -39,7 +39,7 @@ def spelled(row: Row, numbers: str) -> bytes:
     if kind == "C0":
         return bytes([int(text, 16)])
     if kind == "ESC":
-        return b"\x1b" + text.replace("*", "B").encode()
+        return b"\x1b" + re.sub(r"\*$", "B", text).encode()
     if kind in ("CSI", "DCS"):
         marker = text[0] if len(text) > 1 and text[0] in "<=>?" else ""
         front = b"\x1b[" if kind == "CSI" else b"\x1bP"
