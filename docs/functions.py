@@ -26,7 +26,7 @@ macro_rules! rows {{
     ($({pattern},)*) => {{ [$({row}),*] }};
 }}
 
-pub(crate) static {name}: [{kind}; {count}] = rows! {{
+pub static {name}: [{kind}; {count}] = rows! {{
 {body}}};
 """
 PATTERN = "($kind:ident, $head:expr, $numbers:expr, $asking:ident, $standing:ident{more})"

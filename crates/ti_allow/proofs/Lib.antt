@@ -1,1 +1,4 @@
+pub mod BeyondLemmas
 pub mod CoveredLemmas
+pub mod NarrowLemmas
+pub mod PlainLemmas

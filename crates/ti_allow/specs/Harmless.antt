@@ -1,8 +1,10 @@
 -- What a string sends, held against the table.
-use Rattle.std.specs.Prelude.{◌≡◌, ℕ, true, List, [], ◌∷◌, ℤ, codes, if◌then◌else◌}
+use Rattle.std.specs.Prelude.{◌≡◌, ℕ, true, false, List, [], ◌∷◌, ℤ, codes, if◌then◌else◌}
 use Rattle.std.specs.Str.{bytes_eq}
 use Rattle.std.specs.List.{AllByRecursion}
 use Rattle.ti_allow.specs.Rows.{is_allowed}
+use Rattle.ti_allow.specs.declared.beyond.Found.{Found}
+use Rattle.ti_allow.specs.declared.beyond.Found.TheVariants as finds
 use Rattle.ti_allow.specs.declared.row.Row.{Row}
 use Rattle.ti_cap.specs.Spelling.{Writes}
 use Rattle.ti_cap.specs.Tree.{Sequence}
@@ -57,6 +59,14 @@ abbrev pub IsSilent : {X : Type 0} → List X → Type 0
 IsSilent [] = Unit {0}
 IsSilent (found ∷ rest) = ⊥
 
+-- a function that is reported is not in the table
+abbrev pub IsBeyond : List Row → List ℕ → Found → Type 0
+IsBeyond rows name (finds.Function function place) = is_allowed rows name function ≡ false
+IsBeyond rows name found = Unit {0}
+
+abbrev pub AreBeyond : List Row → List ℕ → List Found → Type 0
+AreBeyond rows name found = AllByRecursion (IsBeyond rows name) found
+
 -- what the parser takes as ncurses' `tputs` sends it, and as `ti_pad` does, in one reading
 unfoldable pub OnlyTableIn : List Row → List ℕ → Reading → List ℕ → Type 0
 OnlyTableIn rows name reading bytes =
@@ -73,3 +83,10 @@ OnlyTableOf rows name coding bytes =
 unfoldable pub OnlyTableAlways : List Row → List ℕ → List ℕ → Type 0
 OnlyTableAlways rows name bytes =
     OnlyTableOf rows name Utf8 bytes × OnlyTableOf rows name Utf8WithC1 bytes × OnlyTableOf rows name Bytes bytes
+
+-- ---- a string that is sent as it stands
+
+-- so it is of a text, in each reading
+unfoldable pub PlainOnlyTable : List Row → List ℕ → List ℕ → Type 0
+PlainOnlyTable rows name text = (reading : Reading) → IsHarmless rows name (run reading ground (without_marks Tputs text))
+    × IsHarmless rows name (run reading ground (without_marks TiPad text))

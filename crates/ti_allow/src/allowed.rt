@@ -15,7 +15,7 @@ macro_rules! rows {
     ($(($kind:ident, $head:expr, $numbers:expr, $asking:ident, $standing:ident),)*) => { [$(Row { kind: FunctionKind::$kind, head: $head, numbers: $numbers, asking: Asking::$asking, standing: Standing::$standing }),*] };
 }
 
-pub(crate) static ALLOWED: [Row; 279] = rows! {
+pub static ALLOWED: [Row; 279] = rows! {
     (Control, Exactly(None, Empty, Some(0x00)), ANY, Either, Everywhere),
     (Control, Exactly(None, Empty, Some(0x07)), ANY, Either, Everywhere),
     (Control, Exactly(None, Empty, Some(0x08)), ANY, Either, Everywhere),

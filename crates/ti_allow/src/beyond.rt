@@ -1,13 +1,18 @@
 //! What a string can send, held against the table.
 
-ghost use Rattle.std.specs.Prelude.{◌≡◌, true, IfOk, OnOk};
+ghost use Rattle.std.specs.Prelude.{◌≡◌, List, ℕ, true, IfOk, OnOk};
 ghost use Rattle.std.specs.Bool.{OnTrue};
 ghost use Rattle.std.specs.List.{AllByRecursion};
-ghost use Rattle.ti_allow.specs.Harmless.{AreAllowed, IsClean, IsSilent, OnlyTable, OnlyTableAlways, OnlyTableIn, OnlyTableOf, first_character};
+ghost use Rattle.ti_allow.specs.Harmless.{AreAllowed, AreBeyond, IsBeyond, IsClean, IsSilent, OnlyTable, OnlyTableAlways, OnlyTableIn, OnlyTableOf, first_character};
+ghost use Rattle.ti_allow.specs.Narrow.{are_narrow};
 ghost use Rattle.ti_allow.specs.Rows.{is_allowed};
+ghost use Rattle.ti_allow.specs.declared.row.Row.{Row};
+ghost use Rattle.ti_cap.specs.Tree.{tokens};
+ghost use Rattle.ti_expand.specs.Expands.{ForTree};
 ghost use Rattle.ti_parser.specs.declared.paths.Outcome.TheVariants as outcomes;
 
 use crate::allowed::ALLOWED;
+use crate::narrow::is_narrow;
 use crate::table::is_allowed;
 use std::alloc::{AllocError, Allocator};
 use ti_cap::Capability;
@@ -44,7 +49,9 @@ impl Found {
 
 /// Adds what is found, if it is new.
 fn add<A: Allocator>(found: &mut Vec<Found, A>, new: Found) -> Result<(), AllocError>
-    ensures { OnOk result (IsSilent found.new.items → ⊥) }
+    ensures some { OnOk result (IsSilent found.new.items → ⊥) }
+    ensures beyond { OnOk result ((rows : List Row) (name : List ℕ) → AreBeyond rows name found.old.items
+        → IsBeyond rows name new → AreBeyond rows name found.new.items) }
 {
     if !found.iter().any(|old| old.is_same(&new)) {
         found.push(new)?;
@@ -60,6 +67,7 @@ fn add_function<A: Allocator>(
     place: usize,
 ) -> Result<(), AllocError>
     ensures before { OnOk result (IsSilent found.new.items → IsSilent found.old.items) }
+    ensures beyond { OnOk result (AreBeyond ALLOWED name.now found.old.items → AreBeyond ALLOWED name.now found.new.items) }
     ensures allowed { OnOk result (IsSilent found.new.items → is_allowed ALLOWED name.now function.now ≡ true) }
 {
     if is_allowed(name, function) {
@@ -81,6 +89,7 @@ fn add_functions<A: Allocator>(
     places: &[usize],
 ) -> Result<(), AllocError>
     ensures before { OnOk result (IsSilent found.new.items → IsSilent found.old.items) }
+    ensures beyond { OnOk result (AreBeyond ALLOWED name.now found.old.items → AreBeyond ALLOWED name.now found.new.items) }
     ensures allowed { OnOk result (IsSilent found.new.items → AreAllowed ALLOWED name.now functions.now) }
 {
     let mut index = 0usize;
@@ -105,6 +114,7 @@ fn add_end<A: Allocator>(
     opened: Option<usize>,
 ) -> Result<(), AllocError>
     ensures before { OnOk result (IsSilent found.new.items → IsSilent found.old.items) }
+    ensures beyond { OnOk result ((name : List ℕ) → AreBeyond ALLOWED name found.old.items → AreBeyond ALLOWED name found.new.items) }
     ensures clean { OnOk result (IsSilent found.new.items → IsClean end.now) }
 {
     if is_clean(end) {
@@ -125,6 +135,7 @@ fn add_ends<A: Allocator>(
     opened: &[Option<usize>],
 ) -> Result<(), AllocError>
     ensures before { OnOk result (IsSilent found.new.items → IsSilent found.old.items) }
+    ensures beyond { OnOk result ((name : List ℕ) → AreBeyond ALLOWED name found.old.items → AreBeyond ALLOWED name found.new.items) }
     ensures clean { OnOk result (IsSilent found.new.items → AllByRecursion IsClean ends.now) }
 {
     let mut index = 0usize;
@@ -135,13 +146,20 @@ fn add_ends<A: Allocator>(
     Ok(())
 }
 
-/// Adds why the paths of a string were not followed to their ends.
-fn add_outcome<A: Allocator>(found: &mut Vec<Found, A>, outcome: Outcome) -> Result<(), AllocError>
+/// Adds the ends within a function or a character, or why the paths were not followed to their ends.
+fn add_outcome<A: Allocator>(
+    found: &mut Vec<Found, A>,
+    outcome: Outcome,
+    ends: &[Configuration],
+    opened: &[Option<usize>],
+) -> Result<(), AllocError>
     ensures before { OnOk result (IsSilent found.new.items → IsSilent found.old.items) }
+    ensures beyond { OnOk result ((name : List ℕ) → AreBeyond ALLOWED name found.old.items → AreBeyond ALLOWED name found.new.items) }
+    ensures clean { OnOk result (IsSilent found.new.items → AllByRecursion IsClean ends.now) }
     ensures whole { OnOk result (IsSilent found.new.items → outcome ≡ outcomes.Whole) }
 {
     match outcome {
-        Outcome::Whole => Ok(()),
+        Outcome::Whole => add_ends(found, ends, opened),
         Outcome::ComputedByte => add(found, Found::ComputedByte),
         Outcome::NotTried => add(found, Found::NotTried),
     }
@@ -156,12 +174,12 @@ fn add_received<A: Allocator + Copy>(
     capability: &Capability<'_>,
 ) -> Result<(), AllocError>
     ensures before { OnOk result (IsSilent found.new.items → IsSilent found.old.items) }
+    ensures beyond { OnOk result (AreBeyond ALLOWED name.now found.old.items → AreBeyond ALLOWED name.now found.new.items) }
     ensures table { OnOk result (IsSilent found.new.items → OnlyTable ALLOWED name.now reception capability.now) }
 {
     let sent = functions_of(alloc, reception, capability)?;
     add_functions(found, name, &sent.functions, &sent.places)?;
-    add_ends(found, &sent.ends, &sent.opened)?;
-    add_outcome(found, sent.outcome)?;
+    add_outcome(found, sent.outcome, &sent.ends, &sent.opened)?;
     Ok(())
 }
 
@@ -188,6 +206,7 @@ fn add_read<A: Allocator + Copy>(
     capability: &Capability<'_>,
 ) -> Result<(), AllocError>
     ensures before { OnOk result (IsSilent found.new.items → IsSilent found.old.items) }
+    ensures beyond { OnOk result (AreBeyond ALLOWED name.now found.old.items → AreBeyond ALLOWED name.now found.new.items) }
     ensures table { OnOk result (IsSilent found.new.items → OnlyTableIn ALLOWED name.now reading capability.now) }
 {
     add_received(
@@ -225,6 +244,7 @@ fn add_coded<A: Allocator + Copy>(
     capability: &Capability<'_>,
 ) -> Result<(), AllocError>
     ensures before { OnOk result (IsSilent found.new.items → IsSilent found.old.items) }
+    ensures beyond { OnOk result (AreBeyond ALLOWED name.now found.old.items → AreBeyond ALLOWED name.now found.new.items) }
     ensures table { OnOk result (IsSilent found.new.items → OnlyTableOf ALLOWED name.now coding capability.now) }
 {
     add_read(
@@ -250,23 +270,97 @@ fn add_coded<A: Allocator + Copy>(
     Ok(())
 }
 
+/// The same of a capability that each coding reads alike, and in which no mark can come: as the law `always` says, two passes do.
+fn add_narrow<A: Allocator + Copy>(
+    alloc: A,
+    found: &mut Vec<Found, A>,
+    name: &[u8],
+    capability: &Capability<'_>,
+) -> Result<(), AllocError>
+    requires { ForTree capability.now (λ tree. are_narrow (tokens tree) ≡ true) }
+    ensures beyond { OnOk result (AreBeyond ALLOWED name.now found.old.items → AreBeyond ALLOWED name.now found.new.items) }
+    ensures table { OnOk result (IsSilent found.new.items → OnlyTableAlways ALLOWED name.now capability.now) }
+{
+    add_received(
+        alloc,
+        found,
+        Reception {
+            reading: Reading {
+                coding: Coding::Utf8,
+                within: Within::StartsAnew,
+            },
+            marks: Marks::Tputs,
+            first_character: first_character(name),
+        },
+        name,
+        capability,
+    )?;
+    add_received(
+        alloc,
+        found,
+        Reception {
+            reading: Reading {
+                coding: Coding::Utf8,
+                within: Within::GoesOn,
+            },
+            marks: Marks::Tputs,
+            first_character: first_character(name),
+        },
+        name,
+        capability,
+    )?;
+    Ok(())
+}
+
+/// The same of any other.
+#[tactic(auto, unfolding(crate::specs::Harmless::OnlyTableAlways))]
+fn add_wide<A: Allocator + Copy>(
+    alloc: A,
+    found: &mut Vec<Found, A>,
+    name: &[u8],
+    capability: &Capability<'_>,
+) -> Result<(), AllocError>
+    ensures beyond { OnOk result (AreBeyond ALLOWED name.now found.old.items → AreBeyond ALLOWED name.now found.new.items) }
+    ensures table { OnOk result (IsSilent found.new.items → OnlyTableAlways ALLOWED name.now capability.now) }
+{
+    add_coded(alloc, found, Coding::Utf8, name, capability)?;
+    add_coded(alloc, found, Coding::Utf8WithC1, name, capability)?;
+    add_coded(alloc, found, Coding::Bytes, name, capability)?;
+    Ok(())
+}
+
+/// The same in each reading.
+fn add_all<A: Allocator + Copy>(
+    alloc: A,
+    found: &mut Vec<Found, A>,
+    name: &[u8],
+    capability: &Capability<'_>,
+) -> Result<(), AllocError>
+    ensures beyond { OnOk result (AreBeyond ALLOWED name.now found.old.items → AreBeyond ALLOWED name.now found.new.items) }
+    ensures table { OnOk result (IsSilent found.new.items → OnlyTableAlways ALLOWED name.now capability.now) }
+{
+    if is_narrow(capability) {
+        add_narrow(alloc, found, name, capability)
+    } else {
+        add_wide(alloc, found, name, capability)
+    }
+}
+
 /// What the string with a name can send, or do, that is not in the table: on all paths, for all variables and parameters whose texts
 /// are data, in each reading, as `tputs` of ncurses and as `ti_pad` send it. If nothing is found, it keeps to the table.
 ///
 /// # Errors
 ///
 /// Memory was refused.
-#[tactic(auto, unfolding(crate::specs::Harmless::OnlyTableAlways))]
 pub fn beyond_table<A: Allocator + Copy>(
     alloc: A,
     name: &[u8],
     capability: &Capability<'_>,
 ) -> Result<Vec<Found, A>, AllocError>
     ensures only_table { IfOk result (λ found. IsSilent found.items → OnlyTableAlways ALLOWED name.now capability.now) }
+    ensures beyond { IfOk result (λ found. AreBeyond ALLOWED name.now found.items) }
 {
     let mut found = Vec::new(alloc);
-    add_coded(alloc, &mut found, Coding::Utf8, name, capability)?;
-    add_coded(alloc, &mut found, Coding::Utf8WithC1, name, capability)?;
-    add_coded(alloc, &mut found, Coding::Bytes, name, capability)?;
+    add_all(alloc, &mut found, name, capability)?;
     Ok(found)
 }

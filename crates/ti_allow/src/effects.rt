@@ -16,8 +16,9 @@ macro_rules! rows {
     ($(($kind:ident, $head:expr, $numbers:expr, $asking:ident, $standing:ident, $effect:ident),)*) => { [$(EffectRow { row: Row { kind: FunctionKind::$kind, head: $head, numbers: $numbers, asking: Asking::$asking, standing: Standing::$standing }, effect: Effect::$effect }),*] };
 }
 
-pub(crate) static EFFECTS: [EffectRow; 140] = rows! {
+pub static EFFECTS: [EffectRow; 143] = rows! {
     (Sequence, Exactly(None, Single(b'$'), Some(b'p')), ANY, Either, Answers, Answer),
+    (Sequence, Exactly(Some(b'?'), Single(b'$'), Some(b'p')), ANY, Either, Answers, Answer),
     (Sequence, Exactly(None, Single(b'$'), Some(b'u')), ANY, Either, Answers, Answer),
     (Sequence, Exactly(None, Single(b'$'), Some(b'w')), ANY, Either, Answers, Answer),
     (Sequence, Exactly(None, Single(b'*'), Some(b'y')), ANY, Either, Answers, Answer),
@@ -55,6 +56,7 @@ pub(crate) static EFFECTS: [EffectRow; 140] = rows! {
     (Sequence, Exactly(None, Empty, Some(b'h')), Numbers::Some(Span(2, 2)), Either, Start, Reports),
     (Sequence, Exactly(None, Empty, Some(b'l')), Numbers::Some(Span(12, 12)), Either, Start, Reports),
     (Sequence, Exactly(Some(b'>'), Empty, Some(b'u')), Listed(In(Span(1, 99)), Free), Either, Eneks, Reports),
+    (Sequence, Exactly(Some(b'>'), Empty, Some(b'm')), Listed(In(Span(4, 4)), Free), Either, Eneks, Reports),
     (Sequence, Exactly(Some(b'='), Empty, Some(b'u')), Listed(In(Span(1, 99)), Free), Either, Eneks, Reports),
     (Sequence, Exactly(None, Single(b'\''), Some(b'z')), Listed(In(Span(1, 1)), Free), Either, Xm, Reports),
     (Sequence, Exactly(None, Single(b'\''), Some(b'z')), Listed(In(Span(2, 2)), Free), Either, Xm, Reports),
@@ -157,4 +159,5 @@ pub(crate) static EFFECTS: [EffectRow; 140] = rows! {
     (Device, Exactly(None, Single(b'+'), Some(b'q')), ANY, Either, Nowhere, Answer),
     (Device, Exactly(None, Single(b'+'), Some(b'Q')), ANY, Either, Nowhere, Answer),
     (Device, Every, ANY, Either, DeviceStart, OtherControl),
+    (Application, Every, ANY, Either, Nowhere, OtherControl),
 };

@@ -11,12 +11,16 @@ mod allowed;
 mod beyond;
 mod effect;
 mod effects;
+mod narrow;
+mod plain;
 mod row;
 mod standing;
 mod table;
 
+pub use allowed::ALLOWED;
 pub use beyond::{Found, beyond_table};
 pub use effect::{Effect, EffectRow};
+pub use plain::{doubled, place_in_text, plain_beyond_table};
 pub use row::{Asking, Head, Numbers, Row, Span, Values};
 pub use standing::Standing;
 pub use table::{effect_of, is_allowed};

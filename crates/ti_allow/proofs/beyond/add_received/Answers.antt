@@ -12,11 +12,14 @@ pub returns-clause-table : goal.returns-clause-table
 returns-clause-table g c = λ silent.
     let name = c.args.name.now in
     let sent = c.in_ok-sent.sent in
-    let ends_silent = c.in_ok-add_outcome.ensures.before silent in
-    let functions_silent = c.in_ok-add_ends.ensures.before ends_silent in
+    let functions_silent = c.in_ok-add_outcome.ensures.before silent in
     let Allowed : List Function → Type 0 = λ functions. AreAllowed ALLOWED name functions in
     let Clean : List Configuration → Type 0 = λ ends. AllByRecursion IsClean ends in
     only_table ALLOWED name c.args.reception c.args.capability.now sent.ends.items sent.functions.items
     (c.in_ok-sent.ensures.cover (c.in_ok-add_outcome.ensures.whole silent))
     (subst Allowed c.deref.ensures.value (c.in_ok-add_functions.ensures.allowed functions_silent))
-    (subst Clean c.deref-3.ensures.value (c.in_ok-add_ends.ensures.clean ends_silent))
+    (subst Clean c.deref-3.ensures.value (c.in_ok-add_outcome.ensures.clean silent))
+
+pub returns-clause-beyond : goal.returns-clause-beyond
+returns-clause-beyond g c = λ are.
+    c.in_ok-add_outcome.ensures.beyond c.args.name.now (c.in_ok-add_functions.ensures.beyond are)
