@@ -54,10 +54,8 @@ def paragraphs() -> dict[str, tuple[str, str]]:
 def variants() -> dict[str, list[str]]:
     """For each word the variants that have it."""
     found: dict[str, list[str]] = {}
-    for name in ["ti_lint/src/token_finding.rt", "ti_report/src/finding.rt", "ti_control/src/effect.rt"]:
+    for name in ["ti_lint/src/token_finding.rt", "ti_report/src/finding.rt"]:
         code = (ROOT / "crates" / name).read_text()
-        if "fn word(" in code and "effect" in name:
-            code = code.split("pub fn word(")[1].split("pub fn ")[0]
         for pattern, word in re.findall(r'((?:\w+::\w+(?:\(\w+\))?(?: \| )?)+) => (?:Row::of\(\s*)?"([a-z%]+(?:-[a-z]+)*)"', code):
             found.setdefault(word, []).extend(re.sub(r"\(\w+\)", "(_)", pattern).split(" | "))
     return found
@@ -87,7 +85,6 @@ def functions(name: str, about: str, means: str, texts: dict[str, str]) -> list[
     """A function over all findings, after those on tokens and on effects that it calls."""
     rest = f"""        Finding::Token(finding) => token_{name}(finding),
         Finding::Control(effect) => effect_{name}(effect),
-        Finding::OpenLine => effect_{name}(Effect::OpenString),
 """
     return [
         matched(f"token_{name}", "finding", "TokenFinding", "token_word", f"{about} of what is wrong with a token.", means, texts),
@@ -98,13 +95,12 @@ def functions(name: str, about: str, means: str, texts: dict[str, str]) -> list[
 
 HEAD = """//! The summary of each finding, and its explanation: the paragraph of ti-findings(7) on its word. docs/explanations.py makes this file.
 
-ghost use Rattle.ti_control.specs.Effects.{effect_word};
 ghost use Rattle.ti_lint.specs.FindingWords.{token_word};
 ghost use Rattle.ti_report.specs.Explanations.{IsExplanation, IsSummary};
-ghost use Rattle.ti_report.specs.Findings.{finding_word};
+ghost use Rattle.ti_report.specs.Findings.{effect_word, finding_word};
 
 use crate::finding::Finding;
-use ti_control::Effect;
+use ti_allow::Effect;
 use ti_lint::TokenFinding;
 
 """

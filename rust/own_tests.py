@@ -19,7 +19,7 @@ ALONE = {
     "entry_tests": ["entry_sources"],
     "draft_tests": ["entry_objects", "json"],
     "capability_tests": [],
-    "notation_tests": ["padding_memory", "padding_rows", "padding_writers", "trace", "traces", "control", "controls", "parser"],
+    "notation_tests": ["padding_memory", "padding_rows", "padding_writers", "trace", "traces", "control", "sent_names", "parser"],
 }
 # Else what Rust's own test does is left out of each, and what tests `ti_parser`, which nothing of the program stands on.
 LEFT_OUT = ["tally", "parser"]

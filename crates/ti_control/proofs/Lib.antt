@@ -1,5 +1,1 @@
 pub mod Examples
-pub mod FunctionLemmas
-pub mod MisplacedLemmas
-pub mod NumberLemmas
-pub mod StringLemmas

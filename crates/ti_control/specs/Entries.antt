@@ -1,10 +1,12 @@
 -- What else of an entry does harm: its names, the files that it names, and its size.
-use Rattle.std.specs.Prelude.{◌≡◌, ◌<◌, ◌≤◌, ◌==◌, ◌*◌, ◌||◌, ◌&&◌, ℕ, Bool, true, false, drop, length, nat_lt, nat_eq, List, [], ◌∷◌, codes}
+use Rattle.std.specs.Prelude.{◌≡◌, ◌<◌, ◌≤◌, ◌==◌, ◌*◌, ◌||◌, ◌&&◌, ℕ, Bool, true, false, drop, length, nat_le, nat_lt, nat_eq, List, [], ◌∷◌, codes}
 use Rattle.std.specs.List.{starts_with}
 use Rattle.ti_base.specs.Letters.{letter}
-use Rattle.ti_control.specs.SentBytes.{is_between}
 
 -- ---- names
+
+abbrev pub is_between : ℕ → ℕ → ℕ → Bool
+is_between low high byte = nat_le low byte && nat_le byte high
 
 -- one of 80 to 9F stands at the front
 abbrev pub starts_c1 : List ℕ → Bool

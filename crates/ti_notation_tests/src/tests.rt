@@ -34,7 +34,6 @@ pub fn check_rows<F: Finds>(rt: &(impl Abort + AllocGlobal), rows: &str, finds: 
     }
 }
 
-mod controls;
 mod notation;
 mod notation_memory;
 mod notation_read;
@@ -42,5 +41,6 @@ mod padding_memory;
 mod padding_rows;
 mod padding_writers;
 mod parser;
+mod sent_names;
 mod traces;
 mod uses;

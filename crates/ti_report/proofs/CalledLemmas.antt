@@ -4,14 +4,14 @@ use Rattle.std.specs.List.{find}
 use Rattle.std.specs.Prelude.{is_some}
 use Rattle.std.specs.Str.{bytes_eq}
 use Rattle.std.proofs.lemmas.Slice.Eq.{bytes_eq-Decides}
-use Rattle.ti_control.specs.declared.effect.Effect.{Effect}
-use Rattle.ti_control.specs.declared.effect.Effect.TheVariants.{Answer, Report, Lock, Title, TitleStack, Clipboard, Print, PrintStop, Palette, Window, Reset, OtherControl, DeviceControl, OpenString}
+use Rattle.ti_allow.specs.declared.effect.Effect.{Effect}
+use Rattle.ti_allow.specs.declared.effect.Effect.TheVariants.{Answer, Reports, Title, Window, Clipboard, Palette, Print, Reset, OtherControl}
 use Rattle.ti_lint.specs.declared.token_finding.TokenFinding.{TokenFinding}
 use Rattle.ti_lint.specs.declared.token_finding.TokenFinding.TheVariants.{StackUnderflow, TermcapParameter, ParameterRange, RepeatedIncrement, UnsetVariable, OperandType, StackResidue, UnusedIncrement, LateIncrement, DeadStore, NoEffect, ConstantCondition, RepeatedCondition}
 use Rattle.ti_report.specs.Explanations.{IsUnknown, explained, finding_called}
 use Rattle.ti_report.specs.Findings.{finding_word}
 use Rattle.ti_report.specs.declared.finding.Finding.{Finding}
-use Rattle.ti_report.specs.declared.finding.Finding.TheVariants.{Token, Control, Malformed, UnusedParameter, UnusedColumn, UninterpretedEscape, UninterpretedPercent, FalseMark, MarkInKey, HalfPaired, EqualPair, ToggledPair, KeyPrefix, AlikeKeys, RepeatedName, StandardName, ColorsStay, NoColors, ColorsAreFixed, Layout, Base, EmptyOutput, SameOutput, NegativeNumber, OriginDiffers, IgnoredAttribute, DifferingAttribute, Combination, ShownText, UnendedSequence, SpacedSequence, SignedSequence, UnendedText, SpacedText, SignedText, EmptyKey, LongDelay, LongDelays, Runs, Reads, Size, LoneMir, NamesControl, NamesMalformed, EmptyAlias, UnfitAlias, LongNames, OwnNameControl, RepeatedAlias, NotTried, NotAllTried, DividesByZero, DividesByParameter, DividesLeast, OpenLine}
+use Rattle.ti_report.specs.declared.finding.Finding.TheVariants.{Token, Control, Malformed, UnusedParameter, UnusedColumn, UninterpretedEscape, UninterpretedPercent, FalseMark, MarkInKey, HalfPaired, EqualPair, ToggledPair, KeyPrefix, AlikeKeys, RepeatedName, StandardName, ColorsStay, NoColors, ColorsAreFixed, Layout, Base, EmptyOutput, SameOutput, NegativeNumber, OriginDiffers, IgnoredAttribute, DifferingAttribute, Combination, ShownText, UnendedSequence, SpacedSequence, SignedSequence, UnendedText, SpacedText, SignedText, EmptyKey, LongDelay, LongDelays, Runs, Reads, Size, LoneMir, NamesControl, NamesMalformed, EmptyAlias, UnfitAlias, LongNames, OwnNameControl, RepeatedAlias, NotTried, NotAllTried, DividesByZero, DividesByParameter, DividesLeast, OpenLine, UnknownFunction, ComputedByte, OpenString, NotFollowed, NotEcma}
 
 abbrev has : List ℕ → Finding → Bool
 has word finding = bytes_eq (finding_word finding) word
@@ -46,19 +46,14 @@ token_listed RepeatedCondition = refl
 effect_listed : (effect : Effect) → is_some (finding_called (finding_word (Control effect))) ≡ true
 unfolding explained
 effect_listed Answer = refl
-effect_listed Report = refl
-effect_listed Lock = refl
+effect_listed Reports = refl
 effect_listed Title = refl
-effect_listed TitleStack = refl
-effect_listed Clipboard = refl
-effect_listed Print = refl
-effect_listed PrintStop = refl
-effect_listed Palette = refl
 effect_listed Window = refl
+effect_listed Clipboard = refl
+effect_listed Palette = refl
+effect_listed Print = refl
 effect_listed Reset = refl
 effect_listed OtherControl = refl
-effect_listed DeviceControl = refl
-effect_listed OpenString = refl
 
 listed : (finding : Finding) → is_some (finding_called (finding_word finding)) ≡ true
 unfolding explained
@@ -66,6 +61,11 @@ listed (Token finding) = token_listed finding
 listed (Control effect) = effect_listed effect
 listed (Malformed fault) = refl
 listed OpenLine = refl
+listed UnknownFunction = refl
+listed ComputedByte = refl
+listed OpenString = refl
+listed NotFollowed = refl
+listed NotEcma = refl
 listed SpacedSequence = refl
 listed SignedSequence = refl
 listed SpacedText = refl

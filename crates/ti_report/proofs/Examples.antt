@@ -3,9 +3,9 @@ use Rattle.std.proofs.Common.{◌≡◌, ℕ, Bool, [], ◌∷◌, true, false, 
 use Rattle.std.specs.Prelude.{codes}
 use Rattle.std.specs.Fmt.{digits}
 use Rattle.serde_json.specs.Data.{number, unsigned}
-use Rattle.ti_control.specs.Effects.{effects}
 use Rattle.ti_control.specs.Entries.{starts_introducer}
-use Rattle.ti_control.specs.declared.effect.Effect.TheVariants.{Answer, Title}
+use Rattle.ti_allow.specs.Plain.{doubled_byte}
+use Rattle.ti_allow.specs.declared.effect.Effect.TheVariants.{Title}
 use Rattle.ti_escape.specs.declared.color.Color.TheVariants.{Never}
 use Rattle.ti_lint.specs.declared.level.Level.TheVariants.{Errors, All}
 use Rattle.ti_lint.specs.declared.token_finding.TokenFinding.TheVariants.{ParameterRange, RepeatedIncrement}
@@ -17,7 +17,8 @@ use Rattle.ti_report.specs.Actions.{is_tabset, natural, on_command, on_file}
 use Rattle.ti_report.specs.Bases.{bases_differ}
 use Rattle.ti_report.specs.Blocks.{caret_line, carets, remedy}
 use Rattle.ti_report.specs.Constants.{IsTestsReport}
-use Rattle.ti_report.specs.Controls.{control_remarks, has_introducer, on_counted, range_in}
+use Rattle.ti_report.specs.Controls.{has_introducer, titled}
+use Rattle.ti_report.specs.Crashes.{range_in}
 use Rattle.ti_report.specs.Coverages.{AreCounts, IsCount}
 use Rattle.ti_report.specs.Explanations.{IsExplanation, IsSummary, explained, finding_called}
 use Rattle.ti_report.specs.Findings.{finding_row, finding_word}
@@ -32,7 +33,7 @@ use Rattle.ti_report.specs.Pairs.{equal_pair}
 use Rattle.ti_report.specs.Remarks.{Attribute, For, Last, NoEvidence, OfEntry, OfText, OfTwo, Remark, on_values, placed, unmarked, unplaced}
 use Rattle.ti_report.specs.Reported.{reported}
 use Rattle.ti_report.specs.Reports.{IsUseReport}
-use Rattle.ti_report.specs.Sentences.{called_words, meaning, parameter_words, value_words}
+use Rattle.ti_report.specs.Sentences.{function_words, meaning, parameter_words, value_words}
 use Rattle.ti_report.specs.Sequences.{IsSequenceIn}
 use Rattle.ti_report.specs.Subjects.{known_as}
 use Rattle.ti_report.specs.Texts.{delay_remarks, empty_key, half_paired, may_leave_out, usage_of}
@@ -41,7 +42,6 @@ use Rattle.ti_report.specs.Whole.{has}
 use Rattle.ti_report.specs.declared.finding.Finding.TheVariants.{AlikeKeys, Control, EmptyKey, EmptyOutput, EqualPair, HalfPaired, IgnoredAttribute, KeyPrefix, LongDelay, OriginDiffers, Reads, RepeatedAlias, RepeatedName, Runs, SameOutput, Token}
 use Rattle.ti_report.specs.declared.finding.Finding.{Finding}
 use Rattle.ti_report.specs.declared.names.NameKind.TheVariants.{Alias, Own}
-use Rattle.ti_values.specs.Controls.{Found}
 use Rattle.ti_values.specs.declared.axes.Axes.TheVariants.{Both, Line}
 use Rattle.ti_values.specs.declared.range.Range.TheVariants.{Numbers}
 use Rattle.ti_values.specs.declared.tried.Tried.TheVariants.{Attributes, Two}
@@ -112,7 +112,7 @@ words = (refl, refl, refl)
 
 pub sentences : (meaning (Token ParameterRange) (Last 2) ≡ codes "%p2 is the last parameter by terminfo(5)") × (meaning EmptyOutput (For (Two 3 5)) ≡ codes "for 3 5 it sends nothing")
     × (value_words (Attributes 0) ≡ codes "for no attribute") × (value_words (Attributes 5) ≡ codes "for %p1 %p3")
-    × (called_words (codes "CSI") (codes "6n") ≡ codes "CSI 6n") × (called_words [] (5 ∷ []) ≡ codes "^E")
+    × (function_words (codes "CSI 6n") ≡ codes "CSI 6n: the terminal ") × (function_words (5 ∷ []) ≡ codes "^E: the terminal ")
 unfolding parameter_words digits
 sentences = (refl, refl, refl, refl, refl, refl)
 
@@ -202,11 +202,8 @@ origins = (refl, refl, refl)
 
 -- ---- control functions
 
-abbrev request : Bool → Found
-request is_printed = record { effect = Answer; place = 4; printed = is_printed; label = codes "CSI"; content = codes "6n"; purpose = [] }
-
 pub controls : (has_introducer (97 ∷ 27 ∷ codes "[m") ≡ true) × (has_introducer (27 ∷ codes "H") ≡ false)
     × (range_in ((codes "setaf", Numbers 0 8) ∷ []) (codes "setaf") ≡ Some (Numbers 0 8)) × (range_in ((codes "setaf", Numbers 0 8) ∷ []) (codes "setab") ≡ None)
-    × (control_remarks (codes "bold") (codes "b") ((request false ∷ []) ∷ []) [] ≡ on_counted (codes "bold") (codes "b") (Some (request false)))
-unfolding effects
-controls = (refl, refl, refl, refl, refl)
+    × (titled (TextOf (codes "%")) (codes "tsl") (codes "a") ≡ codes "a%p9%s%%") × (titled (TextOf (codes "b")) (codes "cup") (codes "a") ≡ codes "a")
+unfolding doubled_byte
+controls = (refl, refl, refl, refl, refl, refl)

@@ -28,5 +28,4 @@ pub mod OneKeysLemmas
 pub mod OnePlacesLemmas
 pub mod OneReportLemmas
 pub mod PopsAlwaysLemmas
-pub mod HarmlessLemmas
 pub mod FittingLemmas

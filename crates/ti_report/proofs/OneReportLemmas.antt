@@ -23,10 +23,6 @@ use Rattle.ti_values.specs.declared.tried.Tried.TheVariants.{Number}
 use Rattle.ti_values.specs.Ranges.{parameters_of, values}
 use Rattle.ti_values.specs.Sent.{AreSent}
 use Rattle.ti_control.specs.Capabilities.{is_sent}
-use Rattle.ti_control.specs.Misplaced.{Place}
-use Rattle.ti_values.specs.Controls.{Found}
-use Rattle.ti_values.specs.Outputs.{AreOutputs, plain_found}
-use Rattle.ti_values.proofs.OneControlsLemmas.{one_arms_found, one_outputs, one_samples}
 use Rattle.ti_values.proofs.OneSentLemmas.{one_first_of, one_first_same, one_sends, one_sent}
 use Rattle.ti_words.specs.Texts.{AbsentText, CancelledText, TextOf, TextValue}
 use Rattle.ti_words.specs.Value.{EntryValue, NamedPart}
@@ -37,7 +33,8 @@ use Rattle.ti_report.specs.declared.finding.Finding.{Finding}
 use Rattle.ti_report.specs.declared.finding.Finding.TheVariants as findings
 use Rattle.ti_report.specs.Actions.{action_remarks}
 use Rattle.ti_report.specs.Blocks.{report_lines}
-use Rattle.ti_report.specs.Controls.{AreCapabilityControls, AreControlRemarks, AreControlsIn, AreControlsOf, ArePlainFound, AreUnknownAt, AreUnknownControls, Terminal, bytes_of_known, bytes_of_unknown, control_remarks, looked_at, place_in, plain_controls, range_in, terminal_of}
+use Rattle.ti_report.specs.Controls.{bytes_of_known, bytes_of_unknown, looked_at}
+use Rattle.ti_report.specs.Crashes.{AreDivisionRemarks, AreDivisionsIf, AreDivisionsIn, AreDivisionsOf, AreUnknownDivisions, range_in, rows_of}
 use Rattle.ti_report.specs.Keys.{AreKeyRemarks, entry_keys}
 use Rattle.ti_report.specs.Lines.{AreAll, AreReports, InTurn}
 use Rattle.ti_report.specs.NameBytes.{AreAliases, IsRepeatedReport, parted, AreNameByteRemarks, IsAliasReport, IsOwnNameReport, IsUtf8Report, alias_remarks, long_names, on_names}
@@ -50,7 +47,7 @@ use Rattle.ti_report.specs.Names.{AreNameRemarks, IsNameReport}
 use Rattle.ti_report.specs.declared.names.NameKind.TheVariants.{Alias}
 use Rattle.ti_report.specs.Objects.{remark_object}
 use Rattle.ti_report.specs.Remarks.{Evidence, NoEvidence, Remark, TextRemark, placed, with_name}
-use Rattle.ti_report.specs.Reports.{AreFindings, AreRemarks, AreLines, AreTextRemarks, IsReport, IsTextReport}
+use Rattle.ti_report.specs.Reports.{AreRemarks, AreTextRemarks, HasOneReport, IsTextReport}
 use Rattle.ti_report.specs.Origins.{AreOriginRemarks, AreOriginsBeside, AreOriginsIn, AreOriginsOf, IsOriginOf, IsOriginReport, IsSentAtOrigin, IsSentIfShort, Motion, origin_remarks}
 use Rattle.ti_report.specs.Pairs.{all_pair_remarks}
 use Rattle.ti_report.specs.Reported.{reported}
@@ -93,7 +90,7 @@ either Holds these those r s (inr a) (inr b) = a.1 ∙ sym b.1
 -- ---- texts
 
 -- what has no fault is not refused
-passes : (text : List ℕ) (refused : CapRefused) → IsFaultless text → ¬ IsRefusal text refused
+pub passes : (text : List ℕ) (refused : CapRefused) → IsFaultless text → ¬ IsRefusal text refused
 passes text refused sound (inl (long, is)) = let short = sound.0 in absurd (omega arith)
 passes text refused sound (inr (short, has, below)) = sound.1 refused.fault refused.place has
 
@@ -273,11 +270,22 @@ one_origins_in v (TextOf text) r s (a, is, d) (b, too, h) =
 one_origins_in v AbsentText r s d h = d ∙ sym h
 one_origins_in v CancelledText r s d h = d ∙ sym h
 
--- ---- control functions
+-- ---- divisions
 
-one_plain_found : (untrusted : Bool) (place : Place) (text : List ℕ) (found other : List Found) → ArePlainFound untrusted place text found → ArePlainFound untrusted place text other → found ≡ other
-one_plain_found true place text found other p q = one_arms_found place text found other p q
-one_plain_found false place text found other p q = p ∙ sym q
+one_divisions_if : (range : Option Range) (name text : List ℕ) → IsOne (AreDivisionsIf range name text)
+one_divisions_if range name text = refused_or text (λ refused. []) _ (one_crashes range name text)
+
+one_divisions_in : (sent : Bool) (rows : List (List ℕ × Range)) (class : Class) (name text : List ℕ) → IsOne (AreDivisionsIn sent rows class name text)
+one_divisions_in true rows (classes.Parameterized parameters) name text = one_divisions_if (range_in rows name) name text
+one_divisions_in sent rows class name text = λ x y p q. p ∙ sym q
+
+one_divisions : (v : EntryValue) → IsOne (AreDivisionRemarks v)
+one_divisions v =
+    let known = looked_at bytes_of_known (known_texts v) in
+    let unknown = looked_at bytes_of_unknown (unknown_texts v) in
+    in_turn (AreAll (AreDivisionsOf (rows_of v)) known) _
+    (all (AreDivisionsOf (rows_of v)) (λ k. one_divisions_in (is_sent k.name) (rows_of v) k.class k.name k.text) known)
+    (all AreUnknownDivisions (λ u. one_divisions_if None u.name u.text) unknown)
 
 -- ---- an entry
 
@@ -294,56 +302,14 @@ one_bytes v =
     (in_turn (IsRepeatedReport v.names) _ (one_repeated v.names)
     (in_turn (λ all. all ≡ long_names v.names) _ (λ x y p q. p ∙ sym q) (all IsOwnNameReport (λ name. either _ _ _) (part_names v.extended))))))
 
-one_of_controls : (t : Terminal) (name text : List ℕ) → IsOne (AreCapabilityControls t name text)
-one_of_controls t name text r s (samples, outputs, plain, tried, sent, found, e) (others, also, same, again, too, so, f) =
-    let range = range_in t.rows name in
-    let place = place_in t name in
-    let alike : outputs ≡ also = one_outputs place text samples outputs also sent (subst (λ x. AreOutputs place text x also) (sym (one_samples text range samples others tried again)) too) in
-    e ∙ ap (λ o. control_remarks name text o plain) alike ∙ ap (control_remarks name text also) (one_plain_found t.untrusted place text plain same found so) ∙ sym f
-
-one_in_class : (sent : Bool) (t : Terminal) (class : Class) (name text : List ℕ) → IsOne (AreControlsIn sent t class name text)
-one_in_class true t classes.Plain name text = λ r s d h. d ∙ sym h
-one_in_class true t (classes.Parameterized parameters) name text =
-    refused_or text (λ refused. plain_controls t name text) _
-    (in_turn (AreCapabilityControls t name text) _ (one_of_controls t name text) (one_crashes (range_in t.rows name) name text))
-one_in_class true t class name text = λ r s d h. d ∙ sym h
-one_in_class false t class name text = λ r s d h. d ∙ sym h
-
-one_of_unknown : (untrusted : Bool) (place : Place) (text : List ℕ) → IsOne (AreUnknownAt untrusted place text)
-one_of_unknown untrusted place text r s (samples, outputs, found, tried, sent, (plain, are, is), e) (few, others, also, too, go, (again, so, same), f) =
-    let alike : outputs ≡ others = one_outputs place text samples outputs others sent (subst (λ x. AreOutputs place text x others) (sym (one_samples text None samples few tried too)) go) in
-    let found_alike : found ≡ also = is ∙ ap (λ p. plain_found place text ++ p) (one_plain_found untrusted place text plain again are so) ∙ sym same in
-    e ∙ ap₂ (control_remarks place.capability text) alike found_alike ∙ sym f
-
-one_unknown : (t : Terminal) (u : UnknownText) → IsOne (AreUnknownControls t u)
-one_unknown t u =
-    refused_or u.text (λ refused. plain_controls t u.name u.text) _
-    (in_turn (AreUnknownAt t.untrusted (place_in t u.name) u.text) _ (one_of_unknown t.untrusted (place_in t u.name) u.text) (one_crashes None u.name u.text))
-
-one_controls : (untrusted : Bool) (v : EntryValue) → IsOne (AreControlRemarks untrusted v)
-one_controls untrusted v =
-    let t = terminal_of untrusted v in
-    let known = looked_at bytes_of_known (known_texts v) in
-    let unknown = looked_at bytes_of_unknown (unknown_texts v) in
-    in_turn (AreAll (AreControlsOf t) known) _ (all (AreControlsOf t) (λ k. one_in_class (is_sent k.name) t k.class k.name k.text) known)
-    (in_turn (AreAll (AreUnknownControls t) unknown) _ (all (AreUnknownControls t) (one_unknown t) unknown) (λ x y p q. p ∙ sym q))
-
-one_found_list : (untrusted : Bool) (bytes : List ℕ) (v : EntryValue) → IsOne (AreRemarks untrusted bytes v)
-one_found_list untrusted bytes v =
+one_found_list : (bytes : List ℕ) (v : EntryValue) → IsOne (AreRemarks bytes v)
+one_found_list bytes v =
     in_turn (AreTextRemarks v) _ (one_of_texts v) (in_turn (AreValueRemarks v) _ (one_of_values v) (in_turn (AreSequenceRemarks v) _ (one_sequences v)
     (in_turn (λ all. all ≡ all_pair_remarks v) _ (λ x y p q. p ∙ sym q) (in_turn (AreOriginRemarks v) _ (one_origins_in v _) (in_turn (AreKeyRemarks v) _ (one_keys (entry_keys v))
     (in_turn (AreNameRemarks v.extended) _ (one_names v.extended) (in_turn (AreNameByteRemarks v) _ (one_bytes v)
     (in_turn (λ all. all ≡ action_remarks v) _ (λ x y p q. p ∙ sym q)
-    (in_turn (λ all. all ≡ whole_remarks bytes v) _ (λ x y p q. p ∙ sym q) (one_controls untrusted v))))))))))
+    (in_turn (λ all. all ≡ whole_remarks bytes v) _ (λ x y p q. p ∙ sym q) (one_divisions v))))))))))
 
-pub one_report : (options : LintOptions) (bytes : List ℕ) (v : EntryValue) → IsOne (IsReport options bytes v)
-one_report options bytes v r s (found, are, d) (other, also, h) = d ∙ ap (reported options.level) (one_found_list options.untrusted bytes v found other are also) ∙ sym h
-
-pub one_lines : (options : LintOptions) (color : Color) (before bytes : List ℕ) (v : EntryValue) → IsOne (AreLines options color before bytes v)
-one_lines options color before bytes v r s (remarks, are, e) (others, also, f) = e ∙ ap (report_lines color before) (one_report options bytes v remarks others are also) ∙ sym f
-
-pub one_findings : (options : LintOptions) (bytes : List ℕ) (v : EntryValue) (sound as_sound : Bool) (objects others : List Data) → AreFindings options bytes v sound objects
-    → AreFindings options bytes v as_sound others → (objects ≡ others) × (sound ≡ as_sound)
-one_findings options bytes v sound as_sound objects others p q =
-    let one : p.remarks ≡ q.remarks = one_report options bytes v p.remarks q.remarks p.report q.report in
-    (p.objects_are ∙ ap (map remark_object) one ∙ sym q.objects_are, p.sound_is ∙ ap (λ remarks. length remarks == 0) one ∙ sym q.sound_is)
+pub one_report : HasOneReport
+one_report controls options bytes v r s (found, are, d) (other, also, h) =
+    d ∙ ap (λ l. reported options.level (l ++ controls)) (one_found_list bytes v found other are also) ∙ sym h

@@ -19,8 +19,8 @@ use Rattle.ti_values.specs.declared.tried.Tried.{Tried}
 use Rattle.ti_values.specs.declared.tried.Tried.TheVariants.{Number, Two, Attributes}
 use Rattle.ti_report.specs.declared.finding.Finding.{Finding}
 use Rattle.ti_report.specs.Findings.{finding_remedy, finding_sentence, finding_word, token_words}
-use Rattle.ti_report.specs.Remarks.{About, OfEntry, OfName, OfText, OfTwo, Remark, Evidence, NoEvidence, Last, Value, Parameters, For, Sent, SentForTwo, Attribute, Lacking, Function, Named}
-use Rattle.ti_report.specs.Sentences.{after, before, called_words, content_words, function_words, is_in, meaning, output_words, parameter_word, parameter_words, sent_words, value_words}
+use Rattle.ti_report.specs.Remarks.{About, OfEntry, OfName, OfText, OfTwo, Remark, Evidence, NoEvidence, Last, Value, Parameters, For, Sent, SentForTwo, Attribute, Lacking, Function, Named, Count}
+use Rattle.ti_report.specs.Sentences.{after, before, function_words, is_in, meaning, output_words, parameter_word, parameter_words, sent_words, value_words}
 use Rattle.ti_report.specs.Objects.{about_objects, place_number, remark_object}
 use Rattle.ti_lint.specs.declared.lint_options.LintOptions.{LintOptions}
 use Rattle.ti_words.specs.Value.{EntryValue}
@@ -75,19 +75,8 @@ output_text (byte ∷ rest) = both (codes " it sends ") (shown forms.Notation (b
 sent_text : (value : Tried) (sent : List ℕ) → IsText (sent_words value sent)
 sent_text value sent = both (value_words value) (output_words sent) (value_text value) (output_text sent)
 
-content_text : (content : List ℕ) → IsText (content_words content)
-content_text [] = refl
-content_text (byte ∷ rest) = both (codes " ") (shown forms.Notation (byte ∷ rest)) refl (shown_text (byte ∷ rest))
-
-called_text : (name content : List ℕ) → IsText (called_words name content)
-called_text [] content = shown_text content
-called_text (byte ∷ rest) content = both (label_notation (byte ∷ rest)) (content_words content) (label (byte ∷ rest)) (content_text content)
-
-function_text : (name content purpose : List ℕ) → IsText (function_words name content purpose)
-function_text name content purpose =
-    let it = shown forms.Notation purpose in
-    both (called_words name content) (codes ", " ++ (it ++ codes ": the terminal ")) (called_text name content)
-    (both (codes ", ") (it ++ codes ": the terminal ") refl (both it (codes ": the terminal ") (shown_text purpose) refl))
+function_text : (words : List ℕ) → IsText (function_words words)
+function_text words = both (shown forms.Notation words) (codes ": the terminal ") (shown_text words) refl
 
 before_text : (evidence : Evidence) → IsText (before evidence)
 before_text NoEvidence = refl
@@ -100,7 +89,8 @@ before_text (SentForTwo one other sent) =
     both (value_words one) (codes " and " ++ sent_words other sent) (value_text one) (both (codes " and ") (sent_words other sent) refl (sent_text other sent))
 before_text (Attribute name set) = value_text (Attributes set)
 before_text (Lacking name set sent text) = sent_text (Attributes set) sent
-before_text (Function name content purpose) = function_text name content purpose
+before_text (Function words) = function_text words
+before_text (Count count) = refl
 before_text (Named names) = refl
 
 after_text : (evidence : Evidence) → IsText (after evidence)
@@ -115,7 +105,8 @@ after_text (Attribute name set) = label name
 after_text (Lacking name set sent text) =
     let its = shown forms.Notation text in
     both (label_notation name) (codes " is " ++ its) (label name) (both (codes " is ") its refl (shown_text text))
-after_text (Function name content purpose) = refl
+after_text (Function words) = refl
+after_text (Count count) = decimal_text count
 after_text (Named names) = both (codes "; not at ") (shown forms.Notation names) refl (shown_text names)
 
 pub meaning_text : (finding : Finding) (evidence : Evidence) → IsText (meaning finding evidence)

@@ -1,33 +1,27 @@
--- Control functions that may not stand in the text that sends them, and divisions at which programs end.
-use Rattle.std.specs.Prelude.{◌≡◌, ◌⊎◌, ◌-◌, ℕ, suc, ◌||◌, Bool, true, false, List, [], ◌∷◌, ◌++◌, codes, drop, length, map, nat_lt, Option, Some, None, if◌then◌else◌, take}
-use Rattle.std.specs.List.{flat_map, list_any}
+-- What the strings of an entry make a terminal do, held against the table of what they may.
+use Rattle.std.specs.Prelude.{◌≡◌, ◌⊎◌, ◌-◌, ℕ, suc, ◌||◌, ◌&&◌, Bool, true, false, not, List, [], ◌∷◌, ◌++◌, codes, drop, length, map, nat_lt, Option, Some, None, if◌then◌else◌, take}
+use Rattle.std.specs.List.{AllByRecursion, flat_map, list_any}
 use Rattle.std.specs.Str.{bytes_eq}
+use Rattle.ti_allow.specs.Harmless.{IsSilent, OnlyTableAlways, PlainOnlyTable}
+use Rattle.ti_allow.specs.Plain.{doubled}
+use Rattle.ti_allow.specs.declared.allowed.TheConstants.{ALLOWED}
 use Rattle.ti_cap.specs.declared.language.CapRefused.{CapRefused}
 use Rattle.ti_cap.specs.Refusal.{IsFaultless, IsRefusal}
-use Rattle.ti_control.specs.Capabilities.{is_sent, may_stand}
-use Rattle.ti_control.specs.Effects.{effects}
+use Rattle.ti_control.specs.Capabilities.{is_sent}
 use Rattle.ti_control.specs.Entries.{ecma_capabilities, starts_introducer}
-use Rattle.ti_control.specs.Misplaced.{Place}
-use Rattle.ti_control.specs.declared.effect.Effect.{Effect}
-use Rattle.ti_control.specs.declared.effect.Effect.TheVariants.{OpenString}
-use Rattle.ti_control.specs.declared.sent_byte.SentByte.{SentByte}
-use Rattle.ti_control.specs.declared.sent_byte.SentByte.TheVariants.{Plain}
+use Rattle.ti_lint.specs.declared.lint_options.LintOptions.{LintOptions}
 use Rattle.ti_names.specs.declared.class.Class.{Class}
 use Rattle.ti_names.specs.declared.class.Class.TheVariants as classes
-use Rattle.ti_values.specs.Controls.{Found, counted}
-use Rattle.ti_values.specs.Outputs.{AreArmsFound, AreOutputs, AreSamples, plain_found}
-use Rattle.ti_values.specs.Screens.{tried_texts}
-use Rattle.ti_values.specs.declared.range.Range.{Range}
-use Rattle.ti_values.specs.declared.samples.Sample.{Sample}
 use Rattle.ti_words.specs.Texts.{TextOf, TextValue}
 use Rattle.ti_words.specs.Value.{EntryValue}
 use Rattle.ti_report.specs.declared.finding.Finding.{Finding}
-use Rattle.ti_report.specs.declared.finding.Finding.TheVariants.{Control, NotAllTried, OpenLine}
-use Rattle.ti_report.specs.Crashes.{AreCrashesOf}
+use Rattle.ti_report.specs.declared.finding.Finding.TheVariants.{NotAllTried, NotEcma}
+use Rattle.ti_report.specs.Findings.{is_control}
 use Rattle.ti_report.specs.Lines.{AreAll, InTurn}
-use Rattle.ti_report.specs.Remarks.{Evidence, Function, Named, NoEvidence, OfEntry, OfText, Remark, unmarked}
+use Rattle.ti_report.specs.Reported.{is_all}
+use Rattle.ti_report.specs.Remarks.{Count, Evidence, Named, NoEvidence, OfEntry, Remark, unmarked}
 use Rattle.ti_report.specs.Subjects.{KnownText, UnknownText, known_texts, unknown_texts}
-use Rattle.ti_report.specs.Values.{number_named, text_named}
+use Rattle.ti_report.specs.Values.{text_named}
 
 -- ---- the terminal
 
@@ -47,114 +41,83 @@ is_ecma_in v name = is_ecma_text (text_named v name)
 abbrev pub is_ecma_entry : EntryValue → Bool
 is_ecma_entry v = list_any (is_ecma_in v) ecma_capabilities
 
-abbrev pub plain_text : List ℕ → List SentByte
-plain_text text = map (λ byte. Plain byte) text
+-- ---- how a string is sent
 
-abbrev pub sent_text : TextValue → List SentByte
-sent_text (TextOf text) = plain_text text
-sent_text text = []
+-- a program gives it parameters, or sends it as it stands
+pub data Sending : Type 0 where
+  Expanded : List ℕ → Sending
+  AsItStands : List ℕ → Sending
 
--- whether the entry comes from a stranger; whether the terminal is taken for one of ECMA-48, as each is then; what ends a string that is
--- left open; and what texts are tried over
-pub record Terminal : Type 0 where
-  pub untrusted : Bool
-  pub is_ecma : Bool
-  pub after : List SentByte
-  pub rows : List (List ℕ × Range)
+-- a string that is looked at: its name, and how it is sent
+pub record Look : Type 0 where
+  pub name : List ℕ
+  pub sending : Sending
 
-abbrev pub terminal_of : Bool → EntryValue → Terminal
-terminal_of untrusted v = record {
-  untrusted = untrusted;
-  is_ecma = untrusted || is_ecma_entry v;
-  after = sent_text (text_named v (codes "fsl"));
-  rows = tried_texts (number_named v (codes "lines")) (number_named v (codes "cols")) (number_named v (codes "colors"));
-}
+-- after these a program writes a title, and then `fsl`, if the entry has it
+abbrev pub takes_title : List ℕ → Bool
+takes_title name = bytes_eq (codes "tsl") name || (bytes_eq (codes "TS") name || bytes_eq (codes "Swd") name)
 
--- where a text stands, and what it is tried over
-abbrev pub place_in : Terminal → List ℕ → Place
-place_in t name = record { capability = name; is_ecma = t.is_ecma; after = t.after }
+-- the three are one string, of which the title is a parameter
+abbrev pub with_title : List ℕ → List ℕ → List ℕ
+with_title text end = text ++ (codes "%p9%s" ++ doubled end)
 
-abbrev pub range_in : List (List ℕ × Range) → List ℕ → Option Range
-range_in [] name = None
-range_in ((known, range) ∷ rest) name = if bytes_eq known name then Some range else range_in rest name
+abbrev pub titled : TextValue → List ℕ → List ℕ → List ℕ
+titled (TextOf end) name text = if takes_title name then with_title text end else text
+titled end name text = text
 
--- ---- the remarks on a text
+abbrev pub plain_sending : TextValue → List ℕ → List ℕ → Sending
+plain_sending (TextOf end) name text = if takes_title name then Expanded (with_title (doubled text) end) else AsItStands text
+plain_sending end name text = AsItStands text
 
--- a string that is left open stands in its place, but lacks what ends it
-abbrev pub control_finding : List ℕ → Effect → Finding
-control_finding name OpenString = if may_stand OpenString name then OpenLine else Control OpenString
-control_finding name effect = Control effect
+abbrev pub look : List ℕ → Sending → Look
+look name sending = record { name = name; sending = sending }
 
--- one for each effect, at the token that writes the introducer
-abbrev pub on_counted : List ℕ → List ℕ → Option Found → List Remark
-on_counted name text None = []
-on_counted name text (Some found) =
-    record {
-      about = OfText name text;
-      places = found.place ∷ [];
-      finding = control_finding name found.effect;
-      evidence = Function found.label found.content found.purpose;
-    } ∷ []
+-- a string of a class, if it is sent
+abbrev pub looks_in : Bool → TextValue → Class → List ℕ → List ℕ → List Look
+looks_in true end classes.Plain name text = look name (plain_sending end name text) ∷ []
+looks_in true end (classes.Parameterized parameters) name text = look name (Expanded (titled end name text)) ∷ []
+looks_in sent end class name text = []
 
-abbrev pub on_effect : List ℕ → List ℕ → List (List Found) → List Found → Effect → List Remark
-on_effect name text outputs plain effect = on_counted name text (counted outputs plain effect)
+abbrev pub looks_of : TextValue → KnownText → List Look
+looks_of end t = looks_in (is_sent t.name) end t.class t.name t.text
 
-abbrev pub control_remarks : List ℕ → List ℕ → List (List Found) → List Found → List Remark
-control_remarks name text outputs plain = flat_map (on_effect name text outputs plain) effects
+-- of a string of which nothing is known: a program may expand it, or send it as it stands
+abbrev pub unknown_looks : UnknownText → List Look
+unknown_looks u = look u.name (Expanded u.text) ∷ look u.name (AsItStands u.text) ∷ []
 
--- of the entry of a stranger the plain bytes of all arms are looked at too
-abbrev pub ArePlainFound : Bool → Place → List ℕ → List Found → Type 0
-ArePlainFound true place text plain = AreArmsFound place text plain
-ArePlainFound false place text plain = plain ≡ []
+-- all that are looked at
+abbrev pub all_looks : EntryValue → List Look
+all_looks v = flat_map (looks_of (text_named v (codes "fsl"))) (known_texts v) ++ flat_map unknown_looks (unknown_texts v)
 
--- the remarks on a capability at a place, for what it is tried over
-abbrev pub AreControlsAt : Bool → Place → Option Range → List ℕ → List Remark → Type 0
-AreControlsAt untrusted place range text remarks =
-    (samples : List Sample) × (outputs : List (List Found)) × (plain : List Found)
-    × AreSamples text range samples × AreOutputs place text samples outputs × ArePlainFound untrusted place text plain
-    × (remarks ≡ control_remarks place.capability text outputs plain)
+-- ---- what it may do
 
-abbrev pub AreCapabilityControls : Terminal → List ℕ → List ℕ → List Remark → Type 0
-AreCapabilityControls t name text = AreControlsAt t.untrusted (place_in t name) (range_in t.rows name) text
+-- a terminal takes nothing of it that is not in the table for its name: expanded if it is a capability, and else as it stands
+abbrev pub Keeps : List ℕ → Sending → Type 0
+Keeps name (Expanded text) = (IsFaultless text → OnlyTableAlways ALLOWED name text)
+    × ((refused : CapRefused) → IsRefusal text refused → PlainOnlyTable ALLOWED name text)
+Keeps name (AsItStands text) = PlainOnlyTable ALLOWED name text
 
-abbrev pub plain_controls : Terminal → List ℕ → List ℕ → List Remark
-plain_controls t name text = control_remarks name text (plain_found (place_in t name) text ∷ []) []
+abbrev pub KeepsToTable : Look → Type 0
+KeepsToTable l = Keeps l.name l.sending
 
--- the remarks on a text: as it stands if it is no capability
-abbrev pub AreControlsIf : Terminal → List ℕ → List ℕ → (List Remark → Type 0) → List Remark → Type 0
-AreControlsIf t name text AreOfCapability remarks =
-    ((refused : CapRefused) × IsRefusal text refused × (remarks ≡ plain_controls t name text))
-    ⊎ (IsFaultless text × AreOfCapability remarks)
+-- ---- what is reported of it
 
-abbrev pub AreTriedControls : Terminal → List ℕ → List ℕ → List Remark → Type 0
-AreTriedControls t name text =
-    AreControlsIf t name text (InTurn (AreCapabilityControls t name text) (AreCrashesOf (range_in t.rows name) name text))
+abbrev pub IsControl : Remark → Type 0
+IsControl r = is_control r.finding ≡ true
 
--- a text of a class, if it is sent
-abbrev pub AreControlsIn : Bool → Terminal → Class → List ℕ → List ℕ → List Remark → Type 0
-AreControlsIn true t classes.Plain name text = λ remarks. remarks ≡ plain_controls t name text
-AreControlsIn true t (classes.Parameterized parameters) name text = AreTriedControls t name text
-AreControlsIn sent t class name text = λ remarks. remarks ≡ []
+abbrev pub AreControls : List Remark → Type 0
+AreControls remarks = AllByRecursion IsControl remarks
 
-abbrev pub AreControlsOf : Terminal → KnownText → List Remark → Type 0
-AreControlsOf t text = AreControlsIn (is_sent text.name) t text.class text.name text.text
+-- of the entry of a stranger something, if they may do more
+pub record AreOnLooks (untrusted : Bool) (looks : List Look) (remarks : List Remark) : Type 0 where
+  pub controls : AreControls remarks
+  pub silent : untrusted ≡ true → IsSilent remarks → AllByRecursion KeepsToTable looks
 
--- ---- a text of which nothing is known
+abbrev pub AreControlsOf : Bool → TextValue → KnownText → List Remark → Type 0
+AreControlsOf untrusted end t = AreOnLooks untrusted (looks_of end t)
 
--- a program may send it as it stands, or expand it
-abbrev pub AreUnknownFound : Bool → Place → List ℕ → List Found → Type 0
-AreUnknownFound untrusted place text found =
-    (plain : List Found) × ArePlainFound untrusted place text plain × (found ≡ plain_found place text ++ plain)
-
-abbrev pub AreUnknownAt : Bool → Place → List ℕ → List Remark → Type 0
-AreUnknownAt untrusted place text remarks =
-    (samples : List Sample) × (outputs : List (List Found)) × (found : List Found)
-    × AreSamples text None samples × AreOutputs place text samples outputs × AreUnknownFound untrusted place text found
-    × (remarks ≡ control_remarks place.capability text outputs found)
-
-abbrev pub AreUnknownControls : Terminal → UnknownText → List Remark → Type 0
-AreUnknownControls t u =
-    AreControlsIf t u.name u.text (InTurn (AreUnknownAt t.untrusted (place_in t u.name) u.text) (AreCrashesOf None u.name u.text))
+abbrev pub AreUnknownControls : Bool → UnknownText → List Remark → Type 0
+AreUnknownControls untrusted u = AreOnLooks untrusted (unknown_looks u)
 
 -- ---- all texts
 
@@ -208,10 +171,28 @@ on_left untrusted (space ∷ names) = unmarked OfEntry NotAllTried (left_evidenc
 abbrev pub left_remarks : Bool → EntryValue → List Remark
 left_remarks untrusted v = on_left untrusted (names_left v)
 
-abbrev pub AreControlsBy : Terminal → EntryValue → List Remark → Type 0
-AreControlsBy t v =
-    InTurn (AreAll (AreControlsOf t) (looked_at bytes_of_known (known_texts v)))
-    (InTurn (AreAll (AreUnknownControls t) (looked_at bytes_of_unknown (unknown_texts v))) (λ all. all ≡ left_remarks t.untrusted v))
+abbrev pub AreControlsBy : Bool → EntryValue → List Remark → Type 0
+AreControlsBy untrusted v =
+    InTurn (AreAll (AreControlsOf untrusted (text_named v (codes "fsl"))) (looked_at bytes_of_known (known_texts v)))
+    (InTurn (AreAll (AreUnknownControls untrusted) (looked_at bytes_of_unknown (unknown_texts v))) (λ all. all ≡ left_remarks untrusted v))
 
-abbrev pub AreControlRemarks : Bool → EntryValue → List Remark → Type 0
-AreControlRemarks untrusted v = AreControlsBy (terminal_of untrusted v) v
+-- the table is for terminals of ECMA-48: of another one that is a stranger's one remark says how many there are, if there are several,
+-- unless all are asked for
+abbrev pub folds : LintOptions → Bool → ℕ → Bool
+folds options is_ecma count = options.untrusted && (not (is_all options.level) && (not is_ecma && nat_lt 1 count))
+
+abbrev pub folded_by : LintOptions → Bool → List Remark → List Remark
+folded_by options is_ecma found =
+    if folds options is_ecma (length found) then unmarked OfEntry NotEcma (Count (length found)) else found
+
+abbrev pub folded : LintOptions → EntryValue → List Remark → List Remark
+folded options v found = folded_by options (is_ecma_entry v) found
+
+abbrev pub AreControlRemarks : LintOptions → EntryValue → List Remark → Type 0
+AreControlRemarks options v remarks = (found : List Remark) × AreControlsBy options.untrusted v found × (remarks ≡ folded options v found)
+
+-- ---- the law
+
+-- no remark is on what a string makes a terminal do
+abbrev pub HasNoControl : List Remark → Type 0
+HasNoControl remarks = AllByRecursion (λ r. is_control r.finding ≡ false) remarks

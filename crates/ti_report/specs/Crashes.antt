@@ -1,15 +1,27 @@
 -- Divisions at which programs end by SIGFPE that expand a string by another library: by 0, and of the least number by -1.
-use Rattle.std.specs.Prelude.{◌≡◌, ◌==◌, ◌&&◌, ◌||◌, ◌+ℤ◌, ℕ, ℤ, pos, Bool, true, false, not, List, [], ◌∷◌, ◌++◌, Option, Some, None, if◌then◌else◌, length, map}
+use Rattle.std.specs.Prelude.{◌≡◌, ◌==◌, ◌&&◌, ◌||◌, ◌⊎◌, ◌+ℤ◌, ℕ, ℤ, pos, Bool, true, false, not, List, [], ◌∷◌, ◌++◌, Option, Some, None, if◌then◌else◌, codes, length, map}
 use Rattle.std.specs.List.{list_any}
+use Rattle.std.specs.Str.{bytes_eq}
 use Rattle.ti_cap.specs.Capability.{Spot, Takes}
+use Rattle.ti_cap.specs.Refusal.{IsFaultless, IsRefusal}
+use Rattle.ti_cap.specs.declared.language.CapRefused.{CapRefused}
 use Rattle.ti_cap.specs.declared.language.Op.{Op}
 use Rattle.ti_cap.specs.declared.language.Op.TheVariants.{Div, Rem, Not, BitNot}
 use Rattle.ti_cap.specs.declared.language.Token.{Token}
 use Rattle.ti_cap.specs.declared.language.Token.TheVariants.{Compute, Constant, Param}
 use Rattle.ti_expand.specs.Effect.{combine, complement, flag_number, is_zero}
+use Rattle.ti_control.specs.Capabilities.{is_sent}
+use Rattle.ti_names.specs.declared.class.Class.{Class}
+use Rattle.ti_names.specs.declared.class.Class.TheVariants as classes
+use Rattle.ti_words.specs.Value.{EntryValue}
+use Rattle.ti_report.specs.Controls.{bytes_of_known, bytes_of_unknown, looked_at}
+use Rattle.ti_report.specs.Lines.{AreAll, InTurn}
+use Rattle.ti_report.specs.Subjects.{KnownText, UnknownText, known_texts, unknown_texts}
+use Rattle.ti_report.specs.Values.{number_named}
 use Rattle.ti_report.specs.Remarks.{Last, NoEvidence, Remark, TextRemark, placed, with_name}
 use Rattle.ti_report.specs.declared.finding.Finding.TheVariants.{DividesByParameter, DividesByZero, DividesLeast}
 use Rattle.ti_values.specs.Ranges.{values}
+use Rattle.ti_values.specs.Screens.{tried_texts}
 use Rattle.ti_values.specs.declared.range.Range.{Range}
 use Rattle.ti_values.specs.declared.tried.Tried.{Tried}
 use Rattle.ti_values.specs.declared.tried.Tried.TheVariants.{Attributes, Number, Two}
@@ -122,3 +134,33 @@ AreCrashes range text remarks =
 abbrev pub AreCrashesOf : Option Range → List ℕ → List ℕ → List Remark → Type 0
 AreCrashesOf range name text remarks =
     (found : List TextRemark) × AreCrashes range text found × (remarks ≡ map (with_name name text) found)
+
+-- ---- all texts
+
+abbrev pub range_in : List (List ℕ × Range) → List ℕ → Option Range
+range_in [] name = None
+range_in ((known, range) ∷ rest) name = if bytes_eq known name then Some range else range_in rest name
+
+-- a text that is no capability is not expanded
+abbrev pub AreDivisionsIf : Option Range → List ℕ → List ℕ → List Remark → Type 0
+AreDivisionsIf range name text remarks =
+    ((refused : CapRefused) × IsRefusal text refused × (remarks ≡ [])) ⊎ (IsFaultless text × AreCrashesOf range name text remarks)
+
+-- of a class, if it is sent
+abbrev pub AreDivisionsIn : Bool → List (List ℕ × Range) → Class → List ℕ → List ℕ → List Remark → Type 0
+AreDivisionsIn true rows (classes.Parameterized parameters) name text = AreDivisionsIf (range_in rows name) name text
+AreDivisionsIn sent rows class name text = λ remarks. remarks ≡ []
+
+abbrev pub AreDivisionsOf : List (List ℕ × Range) → KnownText → List Remark → Type 0
+AreDivisionsOf rows t = AreDivisionsIn (is_sent t.name) rows t.class t.name t.text
+
+abbrev pub AreUnknownDivisions : UnknownText → List Remark → Type 0
+AreUnknownDivisions u = AreDivisionsIf None u.name u.text
+
+abbrev pub rows_of : EntryValue → List (List ℕ × Range)
+rows_of v = tried_texts (number_named v (codes "lines")) (number_named v (codes "cols")) (number_named v (codes "colors"))
+
+abbrev pub AreDivisionRemarks : EntryValue → List Remark → Type 0
+AreDivisionRemarks v =
+    InTurn (AreAll (AreDivisionsOf (rows_of v)) (looked_at bytes_of_known (known_texts v)))
+    (AreAll AreUnknownDivisions (looked_at bytes_of_unknown (unknown_texts v)))

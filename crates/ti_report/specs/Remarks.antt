@@ -12,8 +12,7 @@ pub data About : Type 0 where
   OfTwo : List ℕ → List ℕ → List ℕ → List ℕ → About
 
 -- what a sentence has beside the words of its finding: a number, parameters, values with what is sent for them, an
--- attribute, by the name of its text, with a set of attributes; a control function: its introducer, its content, and what it is for;
--- or names, with a space between two
+-- attribute, by the name of its text, with a set of attributes; a function of the terminal, in words; names, with a space between two; or how many there are
 pub data Evidence : Type 0 where
   NoEvidence : Evidence
   Last : ℕ → Evidence
@@ -24,8 +23,9 @@ pub data Evidence : Type 0 where
   SentForTwo : Tried → Tried → List ℕ → Evidence
   Attribute : List ℕ → ℕ → Evidence
   Lacking : List ℕ → ℕ → List ℕ → List ℕ → Evidence
-  Function : List ℕ → List ℕ → List ℕ → Evidence
+  Function : List ℕ → Evidence
   Named : List ℕ → Evidence
+  Count : ℕ → Evidence
 
 -- what it is about, the places of the text at which it is so, what was found, and the evidence
 pub record Remark : Type 0 where

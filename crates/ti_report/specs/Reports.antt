@@ -1,5 +1,6 @@
 -- What is wrong with an entry.
-use Rattle.std.specs.Prelude.{◌≡◌, ◌⊎◌, ℕ, ◌↔◌, ◌==◌, Bool, List, [], ◌∷◌, length, map}
+use Rattle.std.specs.Prelude.{◌≡◌, ◌⊎◌, ℕ, ◌↔◌, ◌==◌, Bool, true, List, [], ◌∷◌, ◌++◌, length, map}
+use Rattle.std.specs.List.{AllByRecursion}
 use Rattle.ti_cap.specs.Refusal.{IsFaultless}
 use Rattle.ti_words.specs.Value.{EntryValue}
 use Rattle.ti_names.specs.declared.class.Class.{Class}
@@ -12,7 +13,8 @@ use Rattle.serde_json.specs.Data.{Data}
 use Rattle.ti_json.specs.Objects.{array_text}
 use Rattle.ti_report.specs.Actions.{action_remarks}
 use Rattle.ti_report.specs.Blocks.{report_lines}
-use Rattle.ti_report.specs.Controls.{AreControlRemarks}
+use Rattle.ti_report.specs.Controls.{AreControlRemarks, HasNoControl, KeepsToTable, all_looks}
+use Rattle.ti_report.specs.Crashes.{AreDivisionRemarks}
 use Rattle.ti_report.specs.Keys.{AreKeyRemarks}
 use Rattle.ti_report.specs.Lines.{AreAll, InTurn}
 use Rattle.ti_report.specs.Subjects.{KnownText, known_texts}
@@ -63,9 +65,9 @@ AreTextRemarks v remarks =
 
 -- what is found, in order: of the texts as their capabilities are ordered, of texts by their values and by their control
 -- sequences, of pairs of texts, of motions beside `cup`, of keys, of names and their bytes, of what programs do, of the whole entry that the bytes spell,
--- and of control functions
-abbrev pub AreRemarks : Bool → List ℕ → EntryValue → List Remark → Type 0
-AreRemarks untrusted bytes v =
+-- and of divisions
+abbrev pub AreRemarks : List ℕ → EntryValue → List Remark → Type 0
+AreRemarks bytes v =
     InTurn (AreTextRemarks v)
     (InTurn (AreValueRemarks v)
     (InTurn (AreSequenceRemarks v)
@@ -75,12 +77,28 @@ AreRemarks untrusted bytes v =
     (InTurn (AreNameRemarks v.extended)
     (InTurn (AreNameByteRemarks v)
     (InTurn (λ all. all ≡ action_remarks v)
-    (InTurn (λ all. all ≡ whole_remarks bytes v) (AreControlRemarks untrusted v))))))))))
+    (InTurn (λ all. all ≡ whole_remarks bytes v) (AreDivisionRemarks v))))))))))
 
--- those that the table of findings has for these options
+-- these, and those on what strings make a terminal do, as far as the table of findings has them for these options
+abbrev pub IsReportWith : List Remark → LintOptions → List ℕ → EntryValue → List Remark → Type 0
+IsReportWith controls options bytes v remarks =
+    (found : List Remark) × AreRemarks bytes v found × (remarks ≡ reported options.level (found ++ controls))
+
 abbrev pub IsReport : LintOptions → List ℕ → EntryValue → List Remark → Type 0
 IsReport options bytes v remarks =
-    (found : List Remark) × AreRemarks options.untrusted bytes v found × (remarks ≡ reported options.level found)
+    (controls : List Remark) × AreControlRemarks options v controls × IsReportWith controls options bytes v remarks
+
+-- ---- laws
+
+-- an entry has one report, but for what is found of what its strings make a terminal do
+abbrev pub HasOneReport : Type 0
+HasOneReport = (controls : List Remark) (options : LintOptions) (bytes : List ℕ) (v : EntryValue) (one other : List Remark)
+    → IsReportWith controls options bytes v one → IsReportWith controls options bytes v other → one ≡ other
+
+-- of the entry of a stranger: if nothing is reported of that, its strings keep to the table
+abbrev pub OnlyTable : Type 0
+OnlyTable = (options : LintOptions) (bytes : List ℕ) (v : EntryValue) (remarks : List Remark) → options.untrusted ≡ true
+    → IsReport options bytes v remarks → HasNoControl remarks → AllByRecursion KeepsToTable (all_looks v)
 
 -- the lines of all remarks, with something before the first line of each
 abbrev pub AreLines : LintOptions → Color → List ℕ → List ℕ → EntryValue → List ℕ → Type 0

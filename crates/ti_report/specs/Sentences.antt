@@ -11,7 +11,7 @@ use Rattle.ti_values.specs.declared.tried.Tried.{Tried}
 use Rattle.ti_values.specs.declared.tried.Tried.TheVariants.{Number, Two, Attributes}
 use Rattle.ti_report.specs.declared.finding.Finding.{Finding}
 use Rattle.ti_report.specs.Findings.{finding_sentence}
-use Rattle.ti_report.specs.Remarks.{Evidence, Last, Value, Parameters, For, Sent, SentForTwo, Attribute, Lacking, Function, Named}
+use Rattle.ti_report.specs.Remarks.{Evidence, Last, Value, Parameters, For, Sent, SentForTwo, Attribute, Lacking, Function, Named, Count}
 
 -- bit N - 1 is for parameter N
 abbrev pub is_in : ParameterSet → ℕ → Bool
@@ -41,19 +41,9 @@ output_words (byte ∷ rest) = codes " it sends " ++ shown forms.Notation (byte 
 abbrev pub sent_words : Tried → List ℕ → List ℕ
 sent_words value sent = value_words value ++ output_words sent
 
--- the content of a control function after its introducer, if it has one
-abbrev pub content_words : List ℕ → List ℕ
-content_words [] = []
-content_words (byte ∷ rest) = codes " " ++ shown forms.Notation (byte ∷ rest)
-
--- its introducer, if that has a name, and its content
-abbrev pub called_words : (label content : List ℕ) → List ℕ
-called_words [] content = shown forms.Notation content
-called_words (byte ∷ rest) content = label_notation (byte ∷ rest) ++ content_words content
-
-abbrev pub function_words : List ℕ → List ℕ → List ℕ → List ℕ
-function_words label content purpose =
-    called_words label content ++ (codes ", " ++ (shown forms.Notation purpose ++ codes ": the terminal "))
+-- a function, and the beginning of a clause on what comes of it
+abbrev pub function_words : List ℕ → List ℕ
+function_words words = shown forms.Notation words ++ codes ": the terminal "
 
 -- the evidence before the words of the finding
 abbrev pub before : Evidence → List ℕ
@@ -63,7 +53,7 @@ before (Sent value sent) = sent_words value sent
 before (SentForTwo one other sent) = value_words one ++ (codes " and " ++ sent_words other sent)
 before (Attribute name set) = value_words (Attributes set)
 before (Lacking name set sent text) = sent_words (Attributes set) sent
-before (Function label content purpose) = function_words label content purpose
+before (Function words) = function_words words
 before _ = []
 
 -- and after them
@@ -73,6 +63,7 @@ after (Parameters set) = parameter_words set 9 1
 after (Attribute name set) = label_notation name
 after (Lacking name set sent text) = label_notation name ++ (codes " is " ++ shown forms.Notation text)
 after (Named names) = codes "; not at " ++ shown forms.Notation names
+after (Count count) = decimal count
 after _ = []
 
 abbrev pub meaning : Finding → Evidence → List ℕ

@@ -1,19 +1,14 @@
 -- What is kept of a text that was tried, so that it is tried once for all entries that share it.
-use Rattle.std.specs.Prelude.{ℕ, Bool, List, [], Some}
-use Rattle.ti_control.specs.Misplaced.{Place}
+use Rattle.std.specs.Prelude.{ℕ, Bool, List, []}
 use Rattle.ti_values.specs.declared.range.Range.{Range}
 use Rattle.ti_values.specs.declared.range.Range.TheVariants.{Attributes}
 use Rattle.ti_values.specs.Ranges.{values}
 use Rattle.ti_values.specs.Sent.{AreSent}
-use Rattle.ti_report.specs.Controls.{AreControlsAt}
 use Rattle.ti_report.specs.Values.{IsNumbersReport}
 
--- the most texts that are kept of which nothing is told, of whose control functions nothing is reported, and with what they send
+-- the most texts that are kept of which nothing is told, and with what they send
 abbrev pub most_quiet_texts : ℕ
 most_quiet_texts = 2048
-
-abbrev pub most_harmless_texts : ℕ
-most_harmless_texts = 2048
 
 abbrev pub most_sent_texts : ℕ
 most_sent_texts = 256
@@ -21,10 +16,6 @@ most_sent_texts = 256
 -- nothing is told of a text over a range, whatever its name is: in each entry of a terminal of ECMA-48, or in each other one
 pub record IsQuiet (ansi : Bool) (text : List ℕ) (range : Range) : Type 0 where
   pub silent : (name : List ℕ) → IsNumbersReport ansi name text range []
-
--- nothing is reported of the control functions of a text at a place over a range, in the entry of a stranger or in another one
-pub record IsHarmless (untrusted : Bool) (place : Place) (range : Range) (text : List ℕ) : Type 0 where
-  pub silent : AreControlsAt untrusted place (Some range) text []
 
 -- what a text sends for all sets of attributes
 abbrev pub AreSentForSets : List ℕ → List (List ℕ) → Type 0

@@ -5,12 +5,12 @@ ghost use Rattle.ti_report.specs.Explanations.{IsUnknown, explained, finding_cal
 ghost use Rattle.ti_report.specs.Findings.{finding_word};
 
 use crate::finding::Finding;
+use ti_allow::Effect;
 use ti_cap::CapFault;
-use ti_control::Effect;
 use ti_lint::TokenFinding;
 
 /// One finding of each word, in the order of ti-findings(7).
-static EXPLAINED: [Finding; 56] = [
+static EXPLAINED: [Finding; 59] = [
     Finding::Malformed(CapFault::UnknownEscape),
     Finding::Token(TokenFinding::StackUnderflow),
     Finding::Token(TokenFinding::TermcapParameter),
@@ -52,7 +52,7 @@ static EXPLAINED: [Finding; 56] = [
     Finding::Size,
     Finding::DividesLeast,
     Finding::Control(Effect::Answer),
-    Finding::Control(Effect::Report),
+    Finding::Control(Effect::Reports),
     Finding::Control(Effect::Title),
     Finding::Control(Effect::Clipboard),
     Finding::Control(Effect::Print),
@@ -60,7 +60,10 @@ static EXPLAINED: [Finding; 56] = [
     Finding::Control(Effect::Window),
     Finding::Control(Effect::Reset),
     Finding::Control(Effect::OtherControl),
-    Finding::Control(Effect::OpenString),
+    Finding::UnknownFunction,
+    Finding::ComputedByte,
+    Finding::OpenString,
+    Finding::NotEcma,
     Finding::ColorsStay,
     Finding::Layout,
     Finding::Base,

@@ -1,48 +1,72 @@
-//! Control functions that may not stand in the text that sends them.
+//! What the strings of an entry make a terminal do, held against the table of what they may.
 
-ghost use Rattle.std.specs.Prelude.{◌≡◌, ◌++◌, IfOk, OnOk, map, option_map};
-ghost use Rattle.std.specs.List.{flat_map};
-ghost use Rattle.ti_control.specs.Effects.{effects};
-ghost use Rattle.ti_control.specs.Parts.{place_at};
-ghost use Rattle.ti_values.specs.inner.Founds.{found_held, founds_held, outputs_held};
-ghost use Rattle.ti_values.specs.inner.Rows.{row_of};
-ghost use Rattle.ti_words.specs.Texts.{text_value};
-ghost use Rattle.ti_report.specs.Controls.{AreCapabilityControls, AreControlRemarks, AreControlsBy, AreControlsOf, ArePlainFound, AreTriedControls, AreUnknownAt, AreUnknownControls, AreUnknownFound, control_finding, control_remarks, has_introducer, is_ecma_entry, is_ecma_text, left_evidence, on_counted, on_left, place_in, plain_controls, plain_text, range_in, sent_text, terminal_of};
+ghost use Rattle.std.specs.Prelude.{◌≡◌, ◌≤◌, ◌++◌, ◌∷◌, [], IfOk, IfSome, IsSome, OnOk, codes, drop, length, take, true};
+ghost use Rattle.ti_allow.specs.Harmless.{IsSilent};
+ghost use Rattle.ti_report.specs.Controls.{AreControlRemarks, AreControls, AreControlsBy, AreControlsOf, AreOnLooks, AreUnknownControls, Keeps, folded_by, folds, has_introducer, is_ecma_entry, is_ecma_text, left_evidence, look as looked_as, on_left, plain_sending, takes_title, titled, with_title};
+ghost use Rattle.ti_report.specs.Controls as TheSending;
+ghost use Rattle.ti_report.specs.Findings.{is_control};
 ghost use Rattle.ti_report.specs.inner.Growing.{Gains, GainsThese};
-ghost use Rattle.ti_report.specs.inner.Held.{evidence_held, terminal_held, text_held, texts_held, unknown_held, unknowns_held};
+ghost use Rattle.ti_report.specs.inner.Held.{evidence_held, sending_held, text_held, texts_held, unknown_held, unknowns_held};
 ghost use Rattle.ti_report.specs.Lines.{AreAll};
+ghost use Rattle.ti_report.specs.Values.{text_named};
+ghost use Rattle.ti_words.specs.Texts.{text_value};
 
 use crate::finding::Finding;
 use crate::looked::{known_fitting, names_of, unknown_fitting};
-use crate::lookup::{number_named, text_named};
-use crate::remark::{About, Evidence, NamedText};
+use crate::lookup::text_named;
+use crate::remark::{About, Evidence, NamedText, Remark};
 use crate::report::Report;
 use crate::subject::{KnownText, unknown_texts};
-use crate::trials::{PlacedText, Trials};
+use crate::words::words_of;
 use std::alloc::{AllocError, Allocator};
-use ti_cap::Capability;
-use ti_control::{Effect, Place, SentByte, all_effects, ecma_capabilities, is_sent, may_stand};
-use ti_entry::Entry;
-use ti_names::Class;
-use ti_values::{
-    FoundFunction, Range, arms_found, counted, is_idle, names_parameter, outputs_for, plain_found,
-    plain_outputs, samples_of, tried_over, tried_texts,
+use ti_allow::{
+    Effect, Found, beyond_table, doubled, effect_of, place_in_text, plain_beyond_table,
 };
+use ti_cap::Capability;
+use ti_control::{ecma_capabilities, is_sent};
+use ti_entry::Entry;
+use ti_lint::{Level, LintOptions};
+use ti_names::Class;
+use ti_parser::{Function, FunctionKind, State};
 use ti_words::Text;
 
-/// The terminal as the rules on control functions need it.
-#[derive(Drop)]
-pub struct Terminal<A: Allocator> {
+/// How a string is sent.
+#[derive(Clone, Copy)]
+pub enum Sending<'t> {
+    /// A program gives it parameters.
+    Expanded(&'t [u8]),
+    /// A program sends it as it stands.
+    AsItStands(&'t [u8]),
+}
+
+/// The entry, as the rules on what its strings send need it.
+#[derive(Clone, Copy)]
+pub struct Terminal<'a> {
     /// The entry comes from a stranger.
     pub untrusted: bool,
-    /// The terminal is taken for one of ECMA-48.
+    /// It is one of ECMA-48.
     pub is_ecma: bool,
-    /// The bytes of `fsl`, which end a string that is left open.
-    pub after: Vec<SentByte, A>,
-    /// The size of the screen, and the colors, by which texts are tried over values.
-    pub lines: i32,
-    pub columns: i32,
-    pub colors: i32,
+    /// What ends a title.
+    pub end: Text<'a>,
+}
+
+/// A text under its name, and whether it is looked at as the capability that writes it.
+#[derive(Clone, Copy)]
+struct Looked<'a> {
+    subject: NamedText<'a>,
+    is_plain: bool,
+}
+
+impl<'a> Looked<'a> {
+    /// A text that is looked at so.
+    fn of(subject: &NamedText<'a>, is_plain: bool) -> Self
+        ensures { (result.subject.name.now ≡ subject.now.name.now) × (result.subject.text.now ≡ subject.now.text.now) }
+    {
+        Looked {
+            subject: *subject,
+            is_plain,
+        }
+    }
 }
 
 /// Whether some byte starts a `\E[`.
@@ -81,118 +105,318 @@ fn is_ecma_entry(entry: &Entry<'_>) -> bool
     false
 }
 
-/// The bytes of a text.
-fn plain_text<A: Allocator>(alloc: A, text: &[u8]) -> Result<Vec<SentByte, A>, AllocError>
-    ensures { IfOk result (λ bytes. bytes.items ≡ plain_text text.now) }
+/// Whether a program writes a title after the string with a name.
+fn takes_title(name: &[u8]) -> bool
+    ensures { result ≡ takes_title name.now }
 {
-    let mut bytes = Vec::new(alloc);
-    'text: for byte in text {
-        bytes.push(SentByte::Plain(*byte))?;
-    }
+    b"tsl".as_slice() == name || b"TS".as_slice() == name || b"Swd".as_slice() == name
+}
+
+/// A string, a title and what ends it, of which the title is a parameter.
+fn with_title<A: Allocator + Copy>(
+    alloc: A,
+    text: &[u8],
+    end: &[u8],
+) -> Result<Vec<u8, A>, AllocError>
+    ensures { IfOk result (λ bytes. bytes.items ≡ with_title text.now end.now) }
+{
+    let ends = doubled(alloc, end)?;
+    let mut bytes = text.to_vec(alloc)?;
+    bytes.extend_from_slice(b"%p9%s")?;
+    bytes.extend_from_slice(ends.as_slice())?;
     Ok(bytes)
 }
 
-/// The bytes of a text, if it is there.
-fn sent_text<A: Allocator>(alloc: A, text: Text<'_>) -> Result<Vec<SentByte, A>, AllocError>
-    ensures { IfOk result (λ bytes. bytes.items ≡ sent_text (text_value text.entry)) }
-{
-    match text {
-        Text::Value(text) => plain_text(alloc, text),
-        Text::Absent | Text::Cancelled => Ok(Vec::new(alloc)),
+/// Whether a string is looked at as it stands: a program sends it so, or it is no capability.
+fn stands(sending: Sending<'_>) -> bool {
+    match sending {
+        Sending::Expanded(text) => Capability::parse(text).is_err(),
+        Sending::AsItStands(_) => true,
     }
 }
 
-/// Returns the terminal of an entry.
-fn terminal_of<A: Allocator>(
+/// What a string can do beside what the table has for its name.
+fn found_in<A: Allocator + Copy>(
     alloc: A,
-    untrusted: bool,
-    entry: &Entry<'_>,
-) -> Result<Terminal<A>, AllocError>
-    ensures { IfOk result (λ terminal. terminal_held terminal ≡ terminal_of untrusted entry.now) }
+    name: &[u8],
+    sending: Sending<'_>,
+) -> Result<Vec<Found, A>, AllocError>
+    ensures { IfOk result (λ found. IsSilent found.items → Keeps name.now (sending_held sending.entry)) }
 {
-    let after = sent_text(alloc, text_named(entry, "fsl"))?;
-    Ok(Terminal {
-        untrusted,
-        is_ecma: untrusted || is_ecma_entry(entry),
-        after,
-        lines: number_named(entry, "lines"),
-        columns: number_named(entry, "cols"),
-        colors: number_named(entry, "colors"),
-    })
+    match sending {
+        Sending::Expanded(text) => match Capability::parse(text) {
+            Ok(capability) => {
+                let found = beyond_table(alloc, name, &capability)?;
+                Ok(found)
+            }
+            Err(_) => {
+                let found = plain_beyond_table(alloc, name, text)?;
+                Ok(found)
+            }
+        },
+        Sending::AsItStands(text) => {
+            let found = plain_beyond_table(alloc, name, text)?;
+            Ok(found)
+        }
+    }
 }
 
-/// The range of the text with a name, if it has one.
-fn range_in(rows: &[(&'static str, Range)], name: &[u8]) -> Option<Range>
-    ensures { result ≡ range_in (map row_of rows.now) name.now }
+/// Whether a state is within a function.
+fn is_within(state: State) -> bool {
+    !matches!(state, State::Ground)
+}
+
+/// A finding on a stranger's string alone.
+fn of_stranger(untrusted: bool, finding: Finding) -> Option<Finding>
+    requires { is_control finding ≡ true }
+    ensures some { untrusted ≡ true → IsSome result }
+    ensures control { IfSome result (λ finding. is_control finding ≡ true) }
 {
-    'rows: for (known, range) in rows {
-        if known.as_bytes() == name {
-            return Some(*range);
-        }
+    if untrusted {
+        return Some(finding);
     }
     None
 }
 
-/// Returns the values over which the text with a name is tried, if it is.
-fn range_of<A: Allocator>(terminal: &Terminal<A>, name: &[u8]) -> Option<Range>
-    ensures { result ≡ range_in (terminal_held terminal.now).rows name.now }
-{
-    let rows = tried_texts(terminal.lines, terminal.columns, terminal.colors);
-    range_in(&rows, name)
+/// Whether a function means the same on terminals that are not of ECMA-48: no control, no escape sequence, and no title of screen(1).
+fn is_of_any(function: &Function) -> bool {
+    !matches!(
+        function.kind,
+        FunctionKind::Control | FunctionKind::Escape | FunctionKind::Title
+    )
 }
 
-/// Where the text with a name stands.
-fn place_in<'t, A: Allocator>(terminal: &'t Terminal<A>, name: &'t [u8]) -> Place<'t>
-    ensures { place_at result ≡ place_in (terminal_held terminal.now) name.now }
+/// Its effect, of which no clause here needs the table.
+fn effect_on(name: &[u8], function: &Function) -> Option<Effect> {
+    effect_of(name, function)
+}
+
+/// The finding on a function with an effect, if the entry is no stranger's.
+fn default_finding(is_ecma: bool, function: &Function, effect: Effect) -> Option<Finding>
+    ensures { IfSome result (λ finding. is_control finding ≡ true) }
 {
-    Place {
-        capability: name,
-        is_ecma: terminal.is_ecma,
-        after: terminal.after.as_slice(),
+    if is_ecma || is_of_any(function) {
+        return Some(Finding::Control(effect));
+    }
+    None
+}
+
+/// The finding on a function that the string with a name may not send.
+fn function_finding(terminal: &Terminal<'_>, name: &[u8], function: &Function) -> Option<Finding>
+    ensures some { terminal.now.untrusted ≡ true → IsSome result }
+    ensures control { IfSome result (λ finding. is_control finding ≡ true) }
+{
+    let Some(effect) = effect_on(name, function) else {
+        return of_stranger(terminal.untrusted, Finding::UnknownFunction);
+    };
+    if terminal.untrusted {
+        return Some(Finding::Control(effect));
+    }
+    default_finding(terminal.is_ecma, function, effect)
+}
+
+/// The finding on a string that is left open.
+fn left_open(name: &[u8]) -> Finding
+    ensures { is_control result ≡ true }
+{
+    if takes_title(name) {
+        return Finding::OpenLine;
+    }
+    Finding::OpenString
+}
+
+/// The finding on a string that can end within a function or a character.
+fn open_finding(terminal: &Terminal<'_>, name: &[u8], state: State) -> Option<Finding>
+    ensures some { terminal.now.untrusted ≡ true → IsSome result }
+    ensures control { IfSome result (λ finding. is_control finding ≡ true) }
+{
+    if terminal.untrusted {
+        return Some(left_open(name));
+    }
+    if terminal.is_ecma && is_within(state) {
+        return Some(left_open(name));
+    }
+    None
+}
+
+/// The finding on what is found, if it is reported.
+fn finding_on(terminal: &Terminal<'_>, name: &[u8], found: &Found) -> Option<Finding>
+    ensures some { terminal.now.untrusted ≡ true → IsSome result }
+    ensures control { IfSome result (λ finding. is_control finding ≡ true) }
+{
+    match found {
+        Found::Function(function, _) => function_finding(terminal, name, function),
+        Found::ComputedByte => of_stranger(terminal.untrusted, Finding::ComputedByte),
+        Found::Open(state, _) => open_finding(terminal, name, *state),
+        Found::NotTried => of_stranger(terminal.untrusted, Finding::NotFollowed),
     }
 }
 
-/// Returns the function found among the plain bytes of all arms, if the entry comes from a stranger.
-fn plain_found_if<A: Allocator + Copy>(
+/// The place of what is found in the capability that was looked at.
+fn place_of(found: &Found) -> Option<usize> {
+    match found {
+        Found::Function(_, place) => Some(*place),
+        Found::Open(_, opened) => *opened,
+        Found::ComputedByte | Found::NotTried => None,
+    }
+}
+
+/// The same place in the text.
+fn place_in(text: &[u8], is_plain: bool, place: usize) -> usize {
+    let there = if is_plain {
+        place_in_text(text, place)
+    } else {
+        place
+    };
+    there.min(text.len().saturating_sub(1))
+}
+
+/// The words for what is found.
+fn words_on<A: Allocator>(alloc: A, found: &Found) -> Result<Vec<u8, A>, AllocError> {
+    match found {
+        Found::Function(function, _) => words_of(alloc, function),
+        _ => Ok(Vec::new(alloc)),
+    }
+}
+
+/// The words as evidence, if there are any.
+fn evidence_of<A: Allocator>(words: Vec<u8, A>) -> Evidence<A> {
+    if words.is_empty() {
+        return Evidence::None;
+    }
+    Evidence::Function(words)
+}
+
+/// The places of what is found.
+fn places_of<A: Allocator>(
     alloc: A,
-    untrusted: bool,
-    place: &Place<'_>,
-    capability: &Capability<'_>,
-) -> Result<Vec<FoundFunction<A>, A>, AllocError>
-    ensures { IfOk result (λ found. ArePlainFound untrusted (place_at place.now) capability.now (founds_held found.items)) }
-{
-    if !untrusted {
-        return Ok(Vec::new(alloc));
-    }
-    let found = arms_found(alloc, place, capability)?;
-    Ok(found)
-}
-
-/// Returns the finding on a control function in the text with a name.
-fn control_finding(name: &[u8], effect: Effect) -> Finding
-    ensures { result ≡ control_finding name.now effect }
-{
-    match effect {
-        Effect::OpenString if may_stand(effect, name) => Finding::OpenLine,
-        _ => Finding::Control(effect),
-    }
-}
-
-/// Returns the functions found in a text as it stands, and then the same.
-fn unknown_found<A: Allocator + Copy>(
-    alloc: A,
-    untrusted: bool,
-    place: &Place<'_>,
-    capability: &Capability<'_>,
     text: &[u8],
-) -> Result<Vec<FoundFunction<A>, A>, AllocError>
-    requires { capability.now ≡ text.now }
-    ensures { IfOk result (λ found. AreUnknownFound untrusted (place_at place.now) text.now (founds_held found.items)) }
+    is_plain: bool,
+    found: &Found,
+) -> Result<Vec<usize, A>, AllocError> {
+    let mut places = Vec::new(alloc);
+    if let Some(place) = place_of(found) {
+        places.push(place_in(text, is_plain, place))?;
+    }
+    Ok(places)
+}
+
+/// Whether a remark has a word.
+fn has_word<A: Allocator>(remarks: &[Remark<'_, A>], word: &str) -> bool
+    ensures { result ≡ true → IsSilent remarks.now → ⊥ }
 {
-    let mut found = plain_found(alloc, place, text)?;
-    let mut plain = plain_found_if(alloc, untrusted, place, capability)?;
-    found.append(&mut plain)?;
-    Ok(found)
+    'remarks: for remark in remarks {
+        if remark.finding().word() == word {
+            return true;
+        }
+    }
+    false
+}
+
+/// Adds a remark, unless one has its word.
+fn add<'a, A: Allocator>(
+    remarks: &mut Vec<Remark<'a, A>, A>,
+    new: Remark<'a, A>,
+) -> Result<(), AllocError>
+    requires { is_control new.finding ≡ true }
+    ensures some { OnOk result (IsSilent remarks.new.items → ⊥) }
+    ensures controls { OnOk result (AreControls remarks.old.items → AreControls remarks.new.items) }
+{
+    if has_word(remarks.as_slice(), new.finding().word()) {
+        return Ok(());
+    }
+    remarks.push(new)?;
+    Ok(())
+}
+
+/// Adds the remark on what is found, if it is reported.
+fn add_found<'a, A: Allocator + Copy>(
+    remarks: &mut Vec<Remark<'a, A>, A>,
+    alloc: A,
+    terminal: &Terminal<'_>,
+    look: &Looked<'a>,
+    found: &Found,
+) -> Result<(), AllocError>
+    ensures controls { OnOk result (AreControls remarks.old.items → AreControls remarks.new.items) }
+    ensures before { OnOk result (IsSilent remarks.new.items → IsSilent remarks.old.items) }
+    ensures some { OnOk result (terminal.now.untrusted ≡ true → IsSilent remarks.new.items → ⊥) }
+{
+    let Some(finding) = finding_on(terminal, look.subject.name, found) else {
+        return Ok(());
+    };
+    let places = places_of(alloc, look.subject.text, look.is_plain, found)?;
+    let evidence = evidence_of(words_on(alloc, found)?);
+    add(
+        remarks,
+        Remark::new(About::Text(look.subject), places, finding, evidence),
+    )
+}
+
+/// Adds the remarks on what is found.
+fn add_all<'a, A: Allocator + Copy>(
+    remarks: &mut Vec<Remark<'a, A>, A>,
+    alloc: A,
+    terminal: &Terminal<'_>,
+    look: &Looked<'a>,
+    found: &[Found],
+) -> Result<(), AllocError>
+    ensures controls { OnOk result (AreControls remarks.old.items → AreControls remarks.new.items) }
+    ensures before { OnOk result (IsSilent remarks.new.items → IsSilent remarks.old.items) }
+    ensures silent { OnOk result (terminal.now.untrusted ≡ true → IsSilent remarks.new.items → IsSilent found.now) }
+{
+    'found: for one in found {
+        add_found(remarks, alloc, terminal, look, one)?;
+    }
+    Ok(())
+}
+
+/// Adds the remarks on a string, as it is sent.
+fn add_look<'a, A: Allocator + Copy>(
+    remarks: &mut Vec<Remark<'a, A>, A>,
+    alloc: A,
+    terminal: &Terminal<'_>,
+    look: &Looked<'a>,
+    sending: Sending<'_>,
+) -> Result<(), AllocError>
+    ensures controls { OnOk result (AreControls remarks.old.items → AreControls remarks.new.items) }
+    ensures before { OnOk result (IsSilent remarks.new.items → IsSilent remarks.old.items) }
+    ensures keeps { OnOk result (terminal.now.untrusted ≡ true → IsSilent remarks.new.items
+        → Keeps look.now.subject.name.now (sending_held sending.entry)) }
+{
+    let found = found_in(alloc, look.subject.name, sending)?;
+    add_all(remarks, alloc, terminal, look, found.as_slice())?;
+    Ok(())
+}
+
+/// Adds the remark on a byte that acts, if the string of a stranger has one.
+fn add_byte<'a, A: Allocator + Copy>(
+    remarks: &mut Vec<Remark<'a, A>, A>,
+    alloc: A,
+    terminal: &Terminal<'_>,
+    subject: &NamedText<'a>,
+) -> Result<(), AllocError>
+    ensures controls { OnOk result (AreControls remarks.old.items → AreControls remarks.new.items) }
+{
+    if !terminal.untrusted {
+        return Ok(());
+    }
+    let Some(place) = acting_place(subject.name, subject.text) else {
+        return Ok(());
+    };
+    let byte = subject.text.get(place).copied().unwrap_or(0);
+    let mut places = Vec::new(alloc);
+    places.push(place)?;
+    let mut words = Vec::new(alloc);
+    words.push(byte)?;
+    add(
+        remarks,
+        Remark::new(
+            About::Text(*subject),
+            places,
+            acting_finding(byte),
+            Evidence::Function(words),
+        ),
+    )
 }
 
 /// The names of texts that are left, if the entry comes from a stranger.
@@ -210,222 +434,190 @@ fn left_evidence<A: Allocator>(
     Ok(Evidence::None)
 }
 
+/// Whether a byte acts on some terminal where a program prints it: ENQ, a shift, an escape, or a control of C1 but ST, which does
+/// nothing by itself.
+fn is_acting(byte: u8) -> bool {
+    matches!(byte, 0x05 | 0x0e | 0x0f | 0x1b | 0x80..=0x9b | 0x9d..=0x9f)
+}
+
+/// The place of the first such byte that a program prints of the string with a name: of the second of each pair of `acsc`, and of `pad`
+/// the first.
+fn acting_place(name: &[u8], text: &[u8]) -> Option<usize> {
+    let (first, step) = match name {
+        b"acsc" => (1, 2),
+        b"pad" => (0, text.len().max(1)),
+        _ => return None,
+    };
+    let mut place = first;
+    for byte in text.iter().skip(first).step_by(step) {
+        if is_acting(*byte) {
+            return Some(place);
+        }
+        place = place.saturating_add(step);
+    }
+    None
+}
+
+/// The finding on such a byte.
+fn acting_finding(byte: u8) -> Finding
+    ensures { is_control result ≡ true }
+{
+    if byte == 0x05 {
+        return Finding::Control(Effect::Answer);
+    }
+    Finding::UnknownFunction
+}
+
+/// Whether the findings on an entry's strings are one line.
+fn folds(options: LintOptions, is_ecma: bool, count: usize) -> bool
+    ensures { result ≡ folds options is_ecma count }
+{
+    match options.level {
+        Level::Errors => options.untrusted && !is_ecma && count > 1,
+        Level::All => false,
+    }
+}
+
 impl<'r, 'a, A: Allocator + Copy> Report<'r, 'a, A> {
-    /// Adds the remark on a control function, if there is one.
-    fn push_function(
+    /// Adds the remarks on a string, as it is sent.
+    fn push_look(
         &mut self,
-        subject: &NamedText<'a>,
-        found: Option<&FoundFunction<A>>,
+        terminal: &Terminal<'_>,
+        look: &Looked<'a>,
+        sending: Sending<'_>,
     ) -> Result<(), AllocError>
-        ensures { OnOk result (GainsThese (on_counted subject.now.name.now subject.now.text.now
-            (option_map (λ f. found_held f.now) found.entry)) self.old self.new) }
+        ensures { OnOk result (Gains (AreOnLooks terminal.now.untrusted
+            (looked_as look.now.subject.name.now (sending_held sending.entry) ∷ [])) self.old self.new) }
     {
-        let Some(found) = found else {
-            return Ok(());
-        };
-        let mut places = Vec::new(self.allocator());
-        places.push(found.place)?;
-        let content = found.content.as_slice().to_vec(self.allocator())?;
-        let evidence = Evidence::Function(found.label, content, found.purpose);
-        self.push(
-            About::Text(*subject),
-            places,
-            control_finding(subject.name, found.effect),
-            evidence,
-        )?;
+        let mut remarks = Vec::new(self.allocator());
+        add_look(&mut remarks, self.allocator(), terminal, look, sending)?;
+        self.extend(remarks)?;
         Ok(())
     }
 
-    /// Adds the remarks on those that count, one for each effect.
-    fn push_counted<'f>(
+    /// Adds the remarks on a string with its title and what ends it.
+    fn push_titled(
         &mut self,
-        subject: &NamedText<'a>,
-        outputs: &'f [Vec<FoundFunction<A>, A>],
-        plain: &'f [FoundFunction<A>],
+        terminal: &Terminal<'_>,
+        look: &Looked<'a>,
+        text: &[u8],
+        end: &[u8],
     ) -> Result<(), AllocError>
-        ensures { OnOk result (GainsThese (control_remarks subject.now.name.now subject.now.text.now
-            (outputs_held outputs.now) (founds_held plain.now)) self.old self.new) }
+        ensures { OnOk result (Gains (AreOnLooks terminal.now.untrusted (looked_as look.now.subject.name.now
+            (TheSending.Expanded (with_title text.now end.now)) ∷ [])) self.old self.new) }
     {
-        'effects: for effect in all_effects() {
-            self.push_function(subject, counted(outputs, plain, *effect))?;
+        let bytes = with_title(self.allocator(), text, end)?;
+        self.push_look(terminal, look, Sending::Expanded(bytes.as_slice()))?;
+        Ok(())
+    }
+
+    /// Adds the remarks on a string that a program gives parameters.
+    fn push_expanded(
+        &mut self,
+        terminal: &Terminal<'_>,
+        subject: &NamedText<'a>,
+    ) -> Result<(), AllocError>
+        ensures { OnOk result (Gains (AreOnLooks terminal.now.untrusted (looked_as subject.now.name.now (TheSending.Expanded
+            (titled (text_value terminal.now.end) subject.now.name.now subject.now.text.now)) ∷ [])) self.old self.new) }
+    {
+        let sending = Sending::Expanded(subject.text);
+        let look = Looked::of(subject, stands(sending));
+        match (takes_title(subject.name), terminal.end) {
+            (true, Text::Value(end)) => self.push_titled(terminal, &look, subject.text, end),
+            _ => self.push_look(terminal, &look, sending),
         }
-        Ok(())
     }
 
-    /// Adds the remarks on a text that is sent as it stands.
-    fn push_plain_controls(
+    /// Adds the remarks on a string that is sent as it stands.
+    fn push_plain(
         &mut self,
-        terminal: &Terminal<A>,
+        terminal: &Terminal<'_>,
         subject: &NamedText<'a>,
     ) -> Result<(), AllocError>
-        ensures { OnOk result (GainsThese (plain_controls (terminal_held terminal.now)
-            subject.now.name.now subject.now.text.now) self.old self.new) }
+        ensures { OnOk result (Gains (AreOnLooks terminal.now.untrusted (looked_as subject.now.name.now
+            (plain_sending (text_value terminal.now.end) subject.now.name.now subject.now.text.now) ∷ [])) self.old self.new) }
     {
-        let place = place_in(terminal, subject.name);
-        let outputs = plain_outputs(self.allocator(), &place, subject.text)?;
-        self.push_counted(subject, outputs.as_slice(), &[])?;
-        Ok(())
-    }
-
-    /// Adds the remarks on a capability. One that is idle is not run: there is none on it.
-    fn push_capability_controls(
-        &mut self,
-        terminal: &Terminal<A>,
-        capability: &Capability<'_>,
-        subject: &NamedText<'a>,
-    ) -> Result<(), AllocError>
-        requires { capability.now ≡ subject.now.text.now }
-        ensures { OnOk result (Gains (AreCapabilityControls (terminal_held terminal.now)
-            subject.now.name.now subject.now.text.now) self.old self.new) }
-    {
-        let alloc = self.allocator();
-        let place = place_in(terminal, subject.name);
-        let over = tried_over(capability, range_of(terminal, subject.name));
-        let named = names_parameter(capability);
-        if is_idle(capability) {
-            return Ok(());
-        }
-        let samples = samples_of(alloc, named, over)?;
-        let outputs = outputs_for(alloc, &place, capability, samples.as_slice())?;
-        let plain = plain_found_if(alloc, terminal.untrusted, &place, capability)?;
-        self.push_counted(subject, outputs.as_slice(), plain.as_slice())?;
-        Ok(())
-    }
-
-    /// The same, but a text that is kept as one of which nothing is reported is not tried again.
-    fn push_ranged_controls(
-        &mut self,
-        trials: &mut Trials<A>,
-        terminal: &Terminal<A>,
-        capability: &Capability<'_>,
-        subject: &NamedText<'a>,
-    ) -> Result<(), AllocError>
-        requires { capability.now ≡ subject.now.text.now }
-        ensures { OnOk result (Gains (AreCapabilityControls (terminal_held terminal.now)
-            subject.now.name.now subject.now.text.now) self.old self.new) }
-    {
-        let Some(range) = range_of(terminal, subject.name) else {
-            return self.push_capability_controls(terminal, capability, subject);
-        };
-        let text = PlacedText {
-            untrusted: terminal.untrusted,
-            place: place_in(terminal, subject.name),
-            range,
-            text: subject.text,
-        };
-        if trials.is_harmless(&text) {
-            return Ok(());
-        }
-        let count = self.count();
-        self.push_capability_controls(terminal, capability, subject)?;
-        if self.count() == count && !is_idle(capability) {
-            trials.keep_harmless(self.allocator(), &text)?;
-        }
-        Ok(())
-    }
-
-    /// Adds the remarks on a text with parameters.
-    fn push_tried_controls(
-        &mut self,
-        trials: &mut Trials<A>,
-        terminal: &Terminal<A>,
-        subject: &NamedText<'a>,
-    ) -> Result<(), AllocError>
-        ensures { OnOk result (Gains (AreTriedControls (terminal_held terminal.now)
-            subject.now.name.now subject.now.text.now) self.old self.new) }
-    {
-        match Capability::parse(subject.text) {
-            Ok(capability) => {
-                self.push_ranged_controls(trials, terminal, &capability, subject)?;
-                self.push_crashes(range_of(terminal, subject.name), &capability, subject)?;
+        let look = Looked::of(subject, true);
+        match (takes_title(subject.name), terminal.end) {
+            (true, Text::Value(end)) => {
+                let text = doubled(self.allocator(), subject.text)?;
+                self.push_titled(terminal, &look, text.as_slice(), end)?;
                 Ok(())
             }
-            Err(_) => {
-                self.push_plain_controls(terminal, subject)?;
-                Ok(())
-            }
+            _ => self.push_look(terminal, &look, Sending::AsItStands(subject.text)),
         }
     }
 
     /// Adds the remarks on a text, if it is sent.
     fn push_controls_of(
         &mut self,
-        trials: &mut Trials<A>,
-        terminal: &Terminal<A>,
+        terminal: &Terminal<'_>,
         text: &KnownText<'a>,
     ) -> Result<(), AllocError>
-        ensures { OnOk result (Gains (AreControlsOf (terminal_held terminal.now) (text_held text.now))
+        ensures { OnOk result (Gains (AreControlsOf terminal.now.untrusted (text_value terminal.now.end) (text_held text.now))
             self.old self.new) }
     {
         match (is_sent(text.subject.name), text.class) {
             (true, Class::Plain) => {
-                self.push_plain_controls(terminal, &text.subject)?;
+                self.push_plain(terminal, &text.subject)?;
                 Ok(())
             }
             (true, Class::Parameterized(_)) => {
-                self.push_tried_controls(trials, terminal, &text.subject)?;
+                self.push_expanded(terminal, &text.subject)?;
                 Ok(())
             }
-            _ => Ok(()),
+            _ => {
+                self.push_bytes(terminal, &text.subject)?;
+                Ok(())
+            }
         }
     }
 
-    /// Adds the remarks on a capability of which nothing is known, as it stands and for a few samples.
-    fn push_unknown_capability(
+    /// Adds the remark on a byte of a stranger's list or pad that acts, if it has one.
+    fn push_bytes(
         &mut self,
-        terminal: &Terminal<A>,
-        capability: &Capability<'_>,
+        terminal: &Terminal<'_>,
         subject: &NamedText<'a>,
     ) -> Result<(), AllocError>
-        requires { capability.now ≡ subject.now.text.now }
-        ensures { OnOk result (Gains (AreUnknownAt (terminal_held terminal.now).untrusted
-            (place_in (terminal_held terminal.now) subject.now.name.now) subject.now.text.now) self.old self.new) }
+        ensures { OnOk result (Gains (AreOnLooks terminal.now.untrusted []) self.old self.new) }
     {
-        let alloc = self.allocator();
-        let place = place_in(terminal, subject.name);
-        let over = tried_over(capability, None);
-        let named = names_parameter(capability);
-        let samples = samples_of(alloc, named, over)?;
-        let outputs = outputs_for(alloc, &place, capability, samples.as_slice())?;
-        let found = unknown_found(alloc, terminal.untrusted, &place, capability, subject.text)?;
-        self.push_counted(subject, outputs.as_slice(), found.as_slice())?;
+        let mut remarks = Vec::new(self.allocator());
+        add_byte(&mut remarks, self.allocator(), terminal, subject)?;
+        self.extend(remarks)?;
         Ok(())
     }
 
-    /// Adds the remarks on a text of which nothing is known.
+    /// Adds the remarks on a text of which nothing is known: expanded, and as it stands.
     fn push_unknown(
         &mut self,
-        terminal: &Terminal<A>,
+        terminal: &Terminal<'_>,
         subject: &NamedText<'a>,
     ) -> Result<(), AllocError>
-        ensures { OnOk result (Gains (AreUnknownControls (terminal_held terminal.now) (unknown_held subject.now))
+        ensures { OnOk result (Gains (AreUnknownControls terminal.now.untrusted (unknown_held subject.now))
             self.old self.new) }
     {
-        match Capability::parse(subject.text) {
-            Ok(capability) => {
-                self.push_unknown_capability(terminal, &capability, subject)?;
-                self.push_crashes(None, &capability, subject)?;
-                Ok(())
-            }
-            Err(_) => {
-                self.push_plain_controls(terminal, subject)?;
-                Ok(())
-            }
-        }
+        let mut remarks = Vec::new(self.allocator());
+        let expanded = Sending::Expanded(subject.text);
+        let look = Looked::of(subject, stands(expanded));
+        add_look(&mut remarks, self.allocator(), terminal, &look, expanded)?;
+        let plain = Looked::of(subject, true);
+        let sending = Sending::AsItStands(subject.text);
+        add_look(&mut remarks, self.allocator(), terminal, &plain, sending)?;
+        self.extend(remarks)?;
+        Ok(())
     }
 
     /// Adds the remarks on some texts of which it is known what they are.
     fn push_known_controls(
         &mut self,
-        trials: &mut Trials<A>,
-        terminal: &Terminal<A>,
+        terminal: &Terminal<'_>,
         texts: &[KnownText<'a>],
     ) -> Result<(), AllocError>
-        ensures { OnOk result (Gains (AreAll (AreControlsOf (terminal_held terminal.now)) (texts_held texts.now))
+        ensures { OnOk result (Gains (AreAll (AreControlsOf terminal.now.untrusted (text_value terminal.now.end)) (texts_held texts.now))
             self.old self.new) }
     {
         'texts: for text in texts {
-            self.push_controls_of(trials, terminal, text)?;
+            self.push_controls_of(terminal, text)?;
         }
         Ok(())
     }
@@ -433,10 +625,10 @@ impl<'r, 'a, A: Allocator + Copy> Report<'r, 'a, A> {
     /// Adds the remarks on some others.
     fn push_unknown_controls(
         &mut self,
-        terminal: &Terminal<A>,
+        terminal: &Terminal<'_>,
         texts: &[NamedText<'a>],
     ) -> Result<(), AllocError>
-        ensures { OnOk result (Gains (AreAll (AreUnknownControls (terminal_held terminal.now)) (unknowns_held texts.now))
+        ensures { OnOk result (Gains (AreAll (AreUnknownControls terminal.now.untrusted) (unknowns_held texts.now))
             self.old self.new) }
     {
         'texts: for text in texts {
@@ -458,34 +650,55 @@ impl<'r, 'a, A: Allocator + Copy> Report<'r, 'a, A> {
     }
 
     /// Adds the remarks on the texts of an entry of the terminal, and the one that not all were looked at.
-    fn push_controls_by(
-        &mut self,
-        trials: &mut Trials<A>,
-        terminal: &Terminal<A>,
-    ) -> Result<(), AllocError>
-        ensures { OnOk result (Gains (AreControlsBy (terminal_held terminal.now) self.old.on.entry) self.old self.new) }
+    fn push_controls_by(&mut self, terminal: &Terminal<'_>) -> Result<(), AllocError>
+        requires { text_value terminal.now.end ≡ text_named self.old.on.entry (codes "fsl") }
+        ensures { OnOk result (Gains (AreControlsBy terminal.now.untrusted self.old.on.entry) self.old self.new) }
     {
         let known = self.texts();
         let unknown = unknown_texts(self.allocator(), self.entry())?;
         let others = unknown.as_slice();
         let (end, others_end) = (known_fitting(known), unknown_fitting(others));
-        self.push_known_controls(trials, terminal, &known[..end])?;
+        self.push_known_controls(terminal, &known[..end])?;
         self.push_unknown_controls(terminal, &others[..others_end])?;
         let names = names_of(self.allocator(), &known[end..], &others[others_end..])?;
         self.push_left(terminal.untrusted, names.as_slice())?;
         Ok(())
     }
 
-    /// Adds the remarks on control functions that may not stand in the text that sends them.
-    pub fn push_controls(&mut self, trials: &mut Trials<A>) -> Result<(), AllocError>
-        ensures { OnOk result (Gains (AreControlRemarks self.old.on.options.untrusted self.old.on.entry)
-            self.old self.new) }
+    /// Puts one remark in the place of those after the first so many, if they are of a stranger's entry that is not of ECMA-48.
+    fn fold(&mut self, is_ecma: bool, first: usize) -> Result<(), AllocError>
+        requires { first ≤ length self.old.remarks }
+        ensures kept { OnOk result (self.new.on ≡ self.old.on) }
+        ensures folded { OnOk result (self.new.remarks ≡ take first self.old.remarks
+            ++ folded_by self.old.on.options is_ecma (drop first self.old.remarks)) }
     {
-        let alloc = self.allocator();
-        let untrusted = self.untrusted();
+        let count = self.count() - first;
+        if folds(self.options(), is_ecma, count) {
+            self.truncate(first);
+            let places = Vec::new(self.allocator());
+            return self.push(
+                About::Entry,
+                places,
+                Finding::NotEcma,
+                Evidence::Count(count),
+            );
+        }
+        Ok(())
+    }
+
+    /// Adds the remarks on what the strings of an entry make a terminal do.
+    pub fn push_controls(&mut self) -> Result<(), AllocError>
+        ensures { OnOk result (Gains (AreControlRemarks self.old.on.options self.old.on.entry) self.old self.new) }
+    {
         let entry = self.entry();
-        let terminal = terminal_of(alloc, untrusted, entry)?;
-        self.push_controls_by(trials, &terminal)?;
+        let terminal = Terminal {
+            untrusted: self.untrusted(),
+            is_ecma: is_ecma_entry(entry),
+            end: text_named(entry, "fsl"),
+        };
+        let first = self.count();
+        self.push_controls_by(&terminal)?;
+        self.fold(terminal.is_ecma, first)?;
         Ok(())
     }
 }

@@ -1,19 +1,25 @@
 //! Divisions at which programs end by SIGFPE that expand a string by another library: by 0, and of the least number by -1.
 
-ghost use Rattle.std.specs.Prelude.{◌≡◌, ◌++◌, ◌∷◌, IfOk, OnOk};
-ghost use Rattle.ti_report.specs.Crashes.{AreCrashes, AreCrashesOf, after, combined, complemented, computed, divides, is_least, is_minus_one, is_zero_for, knows_nothing, least_is_top, may_be_zero, negated, on_division, on_numbers, on_parameter, on_token, result_of, with_right};
-ghost use Rattle.ti_report.specs.Lines.{Adds};
+ghost use Rattle.std.specs.Prelude.{◌≡◌, ◌++◌, ◌∷◌, IfOk, OnOk, map};
+ghost use Rattle.ti_report.specs.Crashes.{AreCrashes, AreCrashesOf, AreDivisionRemarks, AreDivisionsIf, AreDivisionsOf, AreUnknownDivisions, after, combined, complemented, computed, divides, is_least, is_minus_one, is_zero_for, knows_nothing, least_is_top, may_be_zero, negated, on_division, on_numbers, on_parameter, on_token, range_in, result_of, rows_of, with_right};
+ghost use Rattle.ti_report.specs.Lines.{Adds, AreAll};
+ghost use Rattle.ti_values.specs.inner.Rows.{row_of};
 ghost use Rattle.ti_report.specs.inner.Growing.{Gains};
-ghost use Rattle.ti_report.specs.inner.Held.{before_held};
+ghost use Rattle.ti_report.specs.inner.Held.{before_held, text_held, texts_held, unknowns_held};
 
 use crate::finding::Finding;
+use crate::looked::{known_fitting, unknown_fitting};
+use crate::lookup::number_named;
 use crate::remark::{Evidence, NamedText};
 use crate::report::Report;
+use crate::subject::{KnownText, unknown_texts};
 use crate::text_remarks::TextRemarks;
 use std::alloc::{AllocError, Allocator};
 use ti_cap::{Capability, Op, Token};
+use ti_control::is_sent;
 use ti_expand::{apply, complement, logical_not};
-use ti_values::{Range, Tried, values_of};
+use ti_names::Class;
+use ti_values::{Range, Tried, tried_texts, values_of};
 
 /// What is known before a token.
 #[derive(Drop)]
@@ -198,6 +204,18 @@ fn may_be_zero<A: Allocator + Copy>(
     Ok(false)
 }
 
+/// The range of the text with a name, if it has one.
+fn range_in(rows: &[(&'static str, Range)], name: &[u8]) -> Option<Range>
+    ensures { result ≡ range_in (map row_of rows.now) name.now }
+{
+    'rows: for (known, range) in rows {
+        if known.as_bytes() == name {
+            return Some(*range);
+        }
+    }
+    None
+}
+
 impl<A: Allocator + Copy> TextRemarks<A> {
     ghost use Rattle.std.specs.Prelude.{◌∷◌, []};
     ghost use Rattle.ti_report.specs.Remarks.{placed};
@@ -292,7 +310,7 @@ impl<A: Allocator + Copy> TextRemarks<A> {
 
 impl<'r, 'a, A: Allocator + Copy> Report<'r, 'a, A> {
     /// Adds the remarks on the divisions of a capability.
-    pub fn push_crashes(
+    fn push_crashes_of(
         &mut self,
         range: Option<Range>,
         capability: &Capability<'_>,
@@ -305,6 +323,92 @@ impl<'r, 'a, A: Allocator + Copy> Report<'r, 'a, A> {
         let mut remarks = TextRemarks::new(self.allocator());
         remarks.push_crashes(range, capability)?;
         remarks.push_with_name(self, subject)?;
+        Ok(())
+    }
+
+    /// Adds the remarks on the divisions of a text, if it is a capability.
+    fn push_divisions_if(
+        &mut self,
+        range: Option<Range>,
+        subject: &NamedText<'a>,
+    ) -> Result<(), AllocError>
+        ensures { OnOk result (Gains (AreDivisionsIf range subject.now.name.now subject.now.text.now)
+            self.old self.new) }
+    {
+        match Capability::parse(subject.text) {
+            Ok(capability) => {
+                self.push_crashes_of(range, &capability, subject)?;
+                Ok(())
+            }
+            Err(_) => Ok(()),
+        }
+    }
+
+    /// Adds the remarks on the divisions of a text of which it is known what it is, if it is sent.
+    fn push_divisions_of(
+        &mut self,
+        rows: &[(&'static str, Range)],
+        text: &KnownText<'a>,
+    ) -> Result<(), AllocError>
+        ensures { OnOk result (Gains (AreDivisionsOf (map row_of rows.now) (text_held text.now)) self.old self.new) }
+    {
+        match (is_sent(text.subject.name), text.class) {
+            (true, Class::Parameterized(_)) => {
+                self.push_divisions_if(range_in(rows, text.subject.name), &text.subject)
+            }
+            _ => Ok(()),
+        }
+    }
+
+    /// Adds the remarks on the divisions of some texts of which it is known what they are.
+    fn push_known_divisions(
+        &mut self,
+        rows: &[(&'static str, Range)],
+        texts: &[KnownText<'a>],
+    ) -> Result<(), AllocError>
+        ensures { OnOk result (Gains (AreAll (AreDivisionsOf (map row_of rows.now)) (texts_held texts.now))
+            self.old self.new) }
+    {
+        'texts: for text in texts {
+            self.push_divisions_of(rows, text)?;
+        }
+        Ok(())
+    }
+
+    /// Adds the remarks on the divisions of some others.
+    fn push_unknown_divisions(&mut self, texts: &[NamedText<'a>]) -> Result<(), AllocError>
+        ensures { OnOk result (Gains (AreAll AreUnknownDivisions (unknowns_held texts.now)) self.old self.new) }
+    {
+        'texts: for text in texts {
+            self.push_divisions_if(None, text)?;
+        }
+        Ok(())
+    }
+
+    /// Adds the remarks on the divisions of all texts, by the ranges of some.
+    fn push_divisions_by(&mut self, rows: &[(&'static str, Range)]) -> Result<(), AllocError>
+        requires { map row_of rows.now ≡ rows_of self.old.on.entry }
+        ensures { OnOk result (Gains (AreDivisionRemarks self.old.on.entry) self.old self.new) }
+    {
+        let known = self.texts();
+        let unknown = unknown_texts(self.allocator(), self.entry())?;
+        let others = unknown.as_slice();
+        let (end, others_end) = (known_fitting(known), unknown_fitting(others));
+        self.push_known_divisions(rows, &known[..end])?;
+        self.push_unknown_divisions(&others[..others_end])?;
+        Ok(())
+    }
+
+    /// Adds the remarks on divisions at which programs end.
+    pub fn push_divisions(&mut self) -> Result<(), AllocError>
+        ensures { OnOk result (Gains (AreDivisionRemarks self.old.on.entry) self.old self.new) }
+    {
+        let entry = self.entry();
+        let lines = number_named(entry, "lines");
+        let columns = number_named(entry, "cols");
+        let colors = number_named(entry, "colors");
+        let rows = tried_texts(lines, columns, colors);
+        self.push_divisions_by(&rows)?;
         Ok(())
     }
 }

@@ -45,6 +45,7 @@ mod trials;
 mod usage;
 mod values;
 mod whole;
+mod words;
 
 pub use called::{explained_findings, finding_called};
 pub use coverage::{Coverage, coverage_of};

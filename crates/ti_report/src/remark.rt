@@ -42,10 +42,12 @@ pub enum Evidence<A: Allocator> {
     Attribute(&'static str, u16),
     /// The same, with what is sent for the set, and the text of which it lacks a part.
     Lacking(&'static str, u16, Vec<u8, A>, Vec<u8, A>),
-    /// A control function: its introducer, its content, and what it is for.
-    Function(&'static str, Vec<u8, A>, &'static str),
+    /// A function of the terminal, in words.
+    Function(Vec<u8, A>),
     /// Names, with a space between two.
     Named(Vec<u8, A>),
+    /// How many there are.
+    Count(usize),
 }
 
 impl<A: Allocator + Copy> Evidence<A> {
@@ -75,10 +77,9 @@ impl<A: Allocator + Copy> Evidence<A> {
                     text.as_slice().to_vec(alloc)?,
                 )
             }
-            Evidence::Function(label, content, purpose) => {
-                Evidence::Function(label, content.as_slice().to_vec(alloc)?, purpose)
-            }
+            Evidence::Function(words) => Evidence::Function(words.as_slice().to_vec(alloc)?),
             Evidence::Named(names) => Evidence::Named(names.as_slice().to_vec(alloc)?),
+            Evidence::Count(count) => Evidence::Count(*count),
         })
     }
 }

@@ -1,6 +1,6 @@
 //! The report on an entry.
 
-ghost use Rattle.std.specs.Prelude.{◌≡◌, ◌∷◌, [], IfOk, OnOk, length};
+ghost use Rattle.std.specs.Prelude.{◌≡◌, ◌∷◌, [], IfOk, OnOk, length, take};
 ghost use Rattle.ti_report.specs.Lines.{Adds};
 ghost use Rattle.ti_report.specs.Reports.{AreRemarks, AreLines, AreTextRemarks, IsFindingCount, IsReport, IsUseReport};
 ghost use Rattle.ti_report.specs.Reported.{reported as the_reported};
@@ -129,6 +129,29 @@ impl<'r, 'a, A: Allocator + Copy> Report<'r, 'a, A> {
         self.options.untrusted
     }
 
+    /// What is looked for.
+    pub fn options(&self) -> LintOptions
+        ensures { result ≡ self.now.on.options }
+    {
+        self.options
+    }
+
+    /// Drops all remarks but the first so many.
+    pub fn truncate(&mut self, count: usize)
+        ensures kept { self.new.on ≡ self.old.on }
+        ensures first { self.new.remarks ≡ take count self.old.remarks }
+    {
+        self.remarks.truncate(count);
+    }
+
+    /// Adds remarks.
+    pub fn extend(&mut self, more: Vec<Remark<'a, A>, A>) -> Result<(), AllocError>
+        ensures { OnOk result (GainsThese more.entry.items self.old self.new) }
+    {
+        let mut more = more;
+        self.remarks.append(&mut more)
+    }
+
     /// How many remarks there are.
     pub fn count(&self) -> usize
         ensures { result ≡ length self.now.remarks }
@@ -248,10 +271,10 @@ impl<'r, 'a, A: Allocator + Copy> Report<'r, 'a, A> {
         Ok(())
     }
 
-    /// Adds the remarks of all rules, in order.
+    /// Adds the remarks of all rules, in order, but those on what strings make a terminal do.
     fn push_all(&mut self, trials: &mut Trials<A>) -> Result<(), AllocError>
         ensures { OnOk result (Gains
-            (AreRemarks self.old.on.options.untrusted self.old.on.bytes self.old.on.entry) self.old self.new) }
+            (AreRemarks self.old.on.bytes self.old.on.entry) self.old self.new) }
     {
         self.push_texts()?;
         self.push_values(trials)?;
@@ -263,7 +286,7 @@ impl<'r, 'a, A: Allocator + Copy> Report<'r, 'a, A> {
         self.push_name_bytes()?;
         self.push_actions()?;
         self.push_whole()?;
-        self.push_controls(trials)?;
+        self.push_divisions()?;
         Ok(())
     }
 }
@@ -281,6 +304,7 @@ pub fn report_of<'a, A: Allocator + Copy>(
     let texts = known_texts(alloc, entry)?;
     let mut report = Report::new(alloc, bytes, entry, texts.as_slice(), options);
     report.push_all(trials)?;
+    report.push_controls()?;
     let remarks = report.into_reported()?;
     Ok(remarks)
 }

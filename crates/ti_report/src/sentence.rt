@@ -5,7 +5,7 @@ ghost use Rattle.std.specs.Fmt.{signed_decimal};
 ghost use Rattle.ti_escape.specs.Forms.{shown};
 ghost use Rattle.ti_escape.specs.Notation.{label_notation};
 ghost use Rattle.ti_escape.specs.declared.form.Form.TheVariants as forms;
-ghost use Rattle.ti_report.specs.Sentences.{after, before, called_words, content_words, function_words, is_in, meaning, output_words, parameter_words, sent_words, value_words};
+ghost use Rattle.ti_report.specs.Sentences.{after, before, function_words, is_in, meaning, output_words, parameter_words, sent_words, value_words};
 ghost use Rattle.ti_report.specs.inner.Held.{evidence_held};
 
 use crate::finding::Finding;
@@ -138,55 +138,12 @@ fn push_text_of<A: Allocator>(
     push_shown(out, Form::Notation, text)
 }
 
-/// Writes the content of a control function.
-fn push_content<A: Allocator>(out: &mut Vec<u8, A>, content: &[u8]) -> Result<(), AllocError>
-    ensures { OnOk result (out.new.items ≡ out.old.items ++ content_words content.now) }
+/// Writes a function of the terminal.
+fn push_function<A: Allocator>(out: &mut Vec<u8, A>, words: &[u8]) -> Result<(), AllocError>
+    ensures { OnOk result (out.new.items ≡ out.old.items ++ function_words words.now) }
 {
-    if content.is_empty() {
-        return Ok(());
-    }
-    out.extend_from_slice(b" ")?;
-    push_shown(out, Form::Notation, content)
-}
-
-/// Writes what a control function is called.
-fn push_called<A: Allocator>(
-    out: &mut Vec<u8, A>,
-    label: &str,
-    content: &[u8],
-) -> Result<(), AllocError>
-    ensures { OnOk result (out.new.items ≡ out.old.items ++ called_words label.now content.now) }
-{
-    if label.is_empty() {
-        return push_shown(out, Form::Notation, content);
-    }
-    push_label(out, label.as_bytes())?;
-    push_content(out, content)?;
-    Ok(())
-}
-
-/// Writes what a control function is for.
-fn push_purpose<A: Allocator>(out: &mut Vec<u8, A>, purpose: &str) -> Result<(), AllocError>
-    ensures { OnOk result (out.new.items ≡ out.old.items ++ (shown forms.Notation purpose.now ++ codes ": the terminal ")) }
-{
-    push_shown(out, Form::Notation, purpose.as_bytes())?;
+    push_shown(out, Form::Notation, words)?;
     out.extend_from_slice(b": the terminal ")?;
-    Ok(())
-}
-
-/// Writes a control function, and what it is for.
-fn push_function<A: Allocator>(
-    out: &mut Vec<u8, A>,
-    label: &str,
-    content: &[u8],
-    purpose: &str,
-) -> Result<(), AllocError>
-    ensures { OnOk result (out.new.items ≡ out.old.items
-        ++ function_words label.now content.now purpose.now) }
-{
-    push_called(out, label, content)?;
-    out.extend_from_slice(b", ")?;
-    push_purpose(out, purpose)?;
     Ok(())
 }
 
@@ -208,9 +165,7 @@ fn push_before<A: Allocator, B: Allocator>(
         Evidence::Lacking(_, set, sent, _) => {
             push_sent(out, Tried::Attributes(*set), sent.as_slice())
         }
-        Evidence::Function(label, content, purpose) => {
-            push_function(out, label, content.as_slice(), purpose)
-        }
+        Evidence::Function(words) => push_function(out, words.as_slice()),
         _ => Ok(()),
     }
 }
@@ -221,6 +176,14 @@ fn push_names<A: Allocator>(out: &mut Vec<u8, A>, names: &[u8]) -> Result<(), Al
 {
     out.extend_from_slice(b"; not at ")?;
     push_shown(out, Form::Notation, names)
+}
+
+/// Writes how many there are.
+fn push_count<A: Allocator>(out: &mut Vec<u8, A>, count: usize) -> Result<(), AllocError>
+    ensures { OnOk result (out.new.items ≡ out.old.items ++ decimal count) }
+{
+    let mut digits = Buffer::new();
+    out.extend_from_slice(digits.format(count).as_bytes())
 }
 
 /// Writes the evidence that comes after them.
@@ -236,6 +199,7 @@ fn push_after<A: Allocator, B: Allocator>(
         Evidence::Attribute(name, _) => push_label(out, name.as_bytes()),
         Evidence::Lacking(name, _, _, text) => push_text_of(out, name, text.as_slice()),
         Evidence::Named(names) => push_names(out, names.as_slice()),
+        Evidence::Count(count) => push_count(out, *count),
         _ => Ok(()),
     }
 }

@@ -1,23 +1,18 @@
 //! Texts that were tried over values, kept so that each is tried once for all entries that share it.
 //!
-//! Results are kept to save time alone: a report is the same with them and without them. At most [`MOST_QUIET_TEXTS`],
-//! [`MOST_HARMLESS_TEXTS`] and [`MOST_SENT_TEXTS`] are kept, and those after them are tried each time.
+//! Results are kept to save time alone: a report is the same with them and without them. At most [`MOST_QUIET_TEXTS`] and
+//! [`MOST_SENT_TEXTS`] are kept, and those after them are tried each time.
 
 ghost use Rattle.std.specs.Prelude.{◌≡◌, ◌≤◌, IfSome, length, true};
-ghost use Rattle.ti_control.specs.Parts.{place_at};
-ghost use Rattle.ti_report.specs.Trials.{AreSentForSets, IsHarmless, IsQuiet, most_harmless_texts, most_quiet_texts, most_sent_texts};
+ghost use Rattle.ti_report.specs.Trials.{AreSentForSets, IsQuiet, most_quiet_texts, most_sent_texts};
 ghost use Rattle.ti_values.specs.Sent.{texts_of};
 
 use std::alloc::{AllocError, Allocator, Global};
 use std::marker::Model;
-use ti_control::{Place, SentByte};
 use ti_values::Range;
 
 /// The most texts that are kept of which nothing is reported.
 const MOST_QUIET_TEXTS: usize = 2048;
-
-/// The most texts that are kept of whose control functions nothing is reported.
-const MOST_HARMLESS_TEXTS: usize = 2048;
 
 /// The most texts that are kept with what they send.
 const MOST_SENT_TEXTS: usize = 256;
@@ -40,46 +35,6 @@ impl<A: Allocator> Model for QuietText<A> {
     ghost view = { λ q. (q.text.items, q.range, q.ansi) };
 
     ghost invariant = { λ q. IsQuiet q.ansi q.text.items q.range };
-}
-
-/// A text, where it stands, and what it is tried over.
-#[derive(Clone, Copy)]
-pub struct PlacedText<'t> {
-    /// The entry comes from a stranger.
-    pub untrusted: bool,
-    pub place: Place<'t>,
-    pub range: Range,
-    pub text: &'t [u8],
-}
-
-/// A text of whose control functions nothing is reported, at a place and over a range.
-#[derive(Drop)]
-struct HarmlessText<A: Allocator> {
-    untrusted: bool,
-    capability: Vec<u8, A>,
-    is_ecma: bool,
-    after: Vec<SentByte, A>,
-    range: Range,
-    text: Vec<u8, A>,
-}
-
-impl<A: Allocator> Model for HarmlessText<A> {
-    ghost use Rattle.std.specs.Prelude.{ℕ, Bool, List};
-    ghost use Rattle.ti_control.specs.Misplaced.{Place as ThePlace};
-    ghost use Rattle.ti_values.specs.declared.range.Range.{Range as TheRange};
-    ghost use Rattle.ti_report.specs.Trials.{IsHarmless};
-
-    ghost Value = { Bool × ThePlace × TheRange × List ℕ };
-
-    ghost view = { λ h. (
-      h.untrusted,
-      record { capability = h.capability.items; is_ecma = h.is_ecma; after = h.after.items },
-      h.range,
-      h.text.items,
-    ) };
-
-    ghost invariant = { λ h. IsHarmless h.untrusted
-        (record { capability = h.capability.items; is_ecma = h.is_ecma; after = h.after.items }) h.range h.text.items };
 }
 
 /// A text, and what it sends for all sets of attributes.
@@ -105,10 +60,8 @@ impl<A: Allocator> Model for SentText<A> {
 #[derive(Drop)]
 pub struct Trials<A: Allocator = Global> {
     quiet: Vec<QuietText<A>, A>,
-    harmless: Vec<HarmlessText<A>, A>,
     sent: Vec<SentText<A>, A>,
     ghost few_quiet: { length quiet.items ≤ most_quiet_texts },
-    ghost few_harmless: { length harmless.items ≤ most_harmless_texts },
     ghost few_sent: { length sent.items ≤ most_sent_texts },
 }
 
@@ -127,30 +80,6 @@ impl<A: Allocator> QuietText<A> {
     }
 }
 
-impl<A: Allocator> HarmlessText<A> {
-    /// Whether it is this text, at this place and over this range.
-    fn is_of(&self, text: &PlacedText<'_>) -> bool
-        ensures { result ≡ true → IsHarmless text.now.untrusted (place_at text.now.place) text.now.range text.now.text.now }
-    {
-        if self.untrusted != text.untrusted {
-            return false;
-        }
-        if self.is_ecma != text.place.is_ecma {
-            return false;
-        }
-        if self.range != text.range {
-            return false;
-        }
-        if self.text.as_slice() != text.text {
-            return false;
-        }
-        if self.capability.as_slice() != text.place.capability {
-            return false;
-        }
-        self.after.as_slice() == text.place.after
-    }
-}
-
 impl<A: Allocator> Trials<A> {
     /// None so far, which takes no memory.
     pub fn new(alloc: A) -> Self
@@ -159,7 +88,6 @@ impl<A: Allocator> Trials<A> {
     {
         Trials {
             quiet: Vec::new(alloc),
-            harmless: Vec::new(alloc),
             sent: Vec::new(alloc),
         }
     }
@@ -193,45 +121,6 @@ impl<A: Allocator> Trials<A> {
         }
         let text = text.to_vec(alloc)?;
         self.quiet.push(QuietText { text, range, ansi })?;
-        Ok(())
-    }
-
-    /// Whether a text is kept as one of whose control functions nothing is reported.
-    pub(crate) fn is_harmless(&self, text: &PlacedText<'_>) -> bool
-        ensures { result ≡ true → IsHarmless text.now.untrusted (place_at text.now.place) text.now.range text.now.text.now }
-    {
-        for harmless in &self.harmless {
-            if harmless.is_of(text) {
-                return true;
-            }
-        }
-        false
-    }
-
-    /// Keeps a text of whose control functions nothing is reported, if there is room.
-    pub(crate) fn keep_harmless(
-        &mut self,
-        alloc: A,
-        text: &PlacedText<'_>,
-    ) -> Result<(), AllocError>
-    where
-        A: Copy,
-        requires { IsHarmless text.now.untrusted (place_at text.now.place) text.now.range text.now.text.now }
-    {
-        if self.harmless.len() >= MOST_HARMLESS_TEXTS {
-            return Ok(());
-        }
-        let capability = text.place.capability.to_vec(alloc)?;
-        let after = text.place.after.to_vec(alloc)?;
-        let kept = text.text.to_vec(alloc)?;
-        self.harmless.push(HarmlessText {
-            untrusted: text.untrusted,
-            capability,
-            is_ecma: text.place.is_ecma,
-            after,
-            range: text.range,
-            text: kept,
-        })?;
         Ok(())
     }
 

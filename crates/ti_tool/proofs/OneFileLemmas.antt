@@ -13,7 +13,6 @@ use Rattle.ti_line.specs.declared.request.Action.TheVariants.{Capability, Differ
 use Rattle.ti_line.specs.declared.request.Get.{Get}
 use Rattle.ti_line.specs.declared.request.EntryAction.{EntryAction}
 use Rattle.ti_line.specs.declared.request.EntryAction.TheVariants as of_entry
-use Rattle.ti_report.proofs.OneReportLemmas.{one_findings, one_lines}
 use Rattle.ti_tool.specs.declared.fault.ToolFault.{ToolFault}
 use Rattle.ti_tool.specs.declared.fault.ToolFault.TheVariants as fault
 use Rattle.ti_tool.specs.Documents.{AreObjects, FindsIn}
@@ -24,7 +23,7 @@ use Rattle.ti_tool.specs.FileRuns.{AnswerLeadsTo, Contents, IsDueOfJob, IsOutcom
 use Rattle.ti_tool.specs.Files.{before_findings, file_line, result_of_file}
 use Rattle.ti_tool.specs.Got.{IsValueResult}
 use Rattle.ti_tool.specs.Near.{AreNearest}
-use Rattle.ti_tool.specs.Laws.{AreOneLine, FileHasOneResult, HasOneVerdict, InputHasOneResult, RunsHaveOneResult, untold_line}
+use Rattle.ti_tool.specs.Laws.{AreOneLine, FileHasOneResult, HasOneVerdict, InputHasOneResult, IsOneFor, IsOneOf, RunsHaveOneResult, untold_line}
 use Rattle.ti_tool.specs.Results.{Finds, IsAnswer, IsDueIn, IsDueOf}
 use Rattle.ti_tool.specs.Statuses.{status_for}
 use Rattle.ti_tool.specs.Unfit.{IsDueIfFit}
@@ -38,11 +37,11 @@ use Rattle.ti_tool.proofs.OneResultLemmas.{one_answer, one_objects, one_of, one_
 
 -- ---- the verdict
 
-one_found_in : (document : Document) (input : List ℕ) (v : EntryValue) (objects others : List _) (passed as_passed : Bool) → AreObjects document passed input v objects → AreObjects document as_passed input v others
+one_found_in : (document : Document) (input : List ℕ) (v : EntryValue) (objects others : List _) (passed as_passed : Bool) → IsOneOf (of_entry.Json document) → AreObjects document passed input v objects → AreObjects document as_passed input v others
     → FindsIn document passed → FindsIn document as_passed → passed ≡ as_passed
-one_found_in documents.Listing input v objects others passed as_passed are also f g = f ∙ sym g
-one_found_in (documents.Verdicts which) input v objects others passed as_passed are also f g = (one_objects which v objects others passed as_passed are also).1
-one_found_in (documents.Findings options) input v objects others passed as_passed are also f g = (one_findings options input v passed as_passed objects others are also).1
+one_found_in documents.Listing input v objects others passed as_passed certain are also f g = f ∙ sym g
+one_found_in (documents.Verdicts which) input v objects others passed as_passed certain are also f g = (one_objects which v objects others passed as_passed are also).1
+one_found_in (documents.Findings options) input v objects others passed as_passed certain are also f g = absurd certain
 
 one_set : (item : Option ItemValue) (g : Get) (set as_set : Bool) (r s : Result (List ℕ) ToolFault) → IsValueResult item g set r → IsValueResult item g as_set s → set ≡ as_set
 one_set None g set as_set r s d h = d.0 ∙ sym h.0
@@ -52,31 +51,31 @@ one_set (Some (TextItem AbsentText)) g set as_set r s d h = d.0 ∙ sym h.0
 one_set (Some (TextItem CancelledText)) g set as_set r s d h = d.0 ∙ sym h.0
 one_set (Some (TextItem (TextOf text))) g set as_set r s d h = d.0 ∙ sym h.0
 
-one_in : (before : List ℕ) (e : EntryAction) (input : List ℕ) (v : EntryValue) (out outs : List ℕ) (passed as_passed : Bool) → IsDueIn before e passed input v (Ok out)
+one_in : (before : List ℕ) (e : EntryAction) (input : List ℕ) (v : EntryValue) (out outs : List ℕ) (passed as_passed : Bool) → IsOneOf e → IsDueIn before e passed input v (Ok out)
     → IsDueIn before e as_passed input v (Ok outs) → Finds (Entry e) passed → Finds (Entry e) as_passed → passed ≡ as_passed
-one_in before (of_entry.Show options) input v out outs passed as_passed d h f g = f ∙ sym g
-one_in before (of_entry.Json document) input v out outs passed as_passed (objects, are, is) (others, also, same) f g = one_found_in document input v objects others passed as_passed are also f g
-one_in before (of_entry.Check which naming) input v out outs passed as_passed d h f g = (one_verdicts which naming v out outs passed as_passed d h).1
-one_in before (of_entry.Lint options color) input v out outs passed as_passed d h f g = d.1 ∙ ap (λ lines. length lines == 0) (one_lines options color before input v out outs d.0 h.0) ∙ sym h.1
-one_in before (of_entry.Expand e) input v out outs passed as_passed d h f g = f ∙ sym g
-one_in before (of_entry.Convert width) input v out outs passed as_passed d h f g = f ∙ sym g
-one_in before (of_entry.Trace t) input v out outs passed as_passed d h f g = f ∙ sym g
-one_in before (of_entry.Get get) input v out outs passed as_passed (item, called, d) (other, again, h) f g =
+one_in before (of_entry.Show options) input v out outs passed as_passed certain d h f g = f ∙ sym g
+one_in before (of_entry.Json document) input v out outs passed as_passed certain (objects, are, is) (others, also, same) f g = one_found_in document input v objects others passed as_passed certain are also f g
+one_in before (of_entry.Check which naming) input v out outs passed as_passed certain d h f g = (one_verdicts which naming v out outs passed as_passed d h).1
+one_in before (of_entry.Lint options color) input v out outs passed as_passed certain d h f g = absurd certain
+one_in before (of_entry.Expand e) input v out outs passed as_passed certain d h f g = f ∙ sym g
+one_in before (of_entry.Convert width) input v out outs passed as_passed certain d h f g = f ∙ sym g
+one_in before (of_entry.Trace t) input v out outs passed as_passed certain d h f g = f ∙ sym g
+one_in before (of_entry.Get get) input v out outs passed as_passed certain (item, called, d) (other, again, h) f g =
     let same = subst (λ i. IsDueIfFit get.name.now get.given i (IsValueResult i get as_passed) (Ok outs)) (one_item All v get.name.now other item again called) h in
     one_set item get passed as_passed (Ok out) (Ok outs) (fit_output get.name.now get.given item (IsValueResult item get passed) out d) (fit_output get.name.now get.given item (IsValueResult item get as_passed) outs same)
 
-one_sound : (before : List ℕ) (e : EntryAction) (input out outs : List ℕ) (passed as_passed : Bool) → IsDueOf before e passed input (Ok out)
+one_sound : (before : List ℕ) (e : EntryAction) (input out outs : List ℕ) (passed as_passed : Bool) → IsOneOf e → IsDueOf before e passed input (Ok out)
     → IsDueOf before e as_passed input (Ok outs) → Finds (Entry e) passed → Finds (Entry e) as_passed → passed ≡ as_passed
-one_sound before e input out outs passed as_passed (inl (refused, is, same)) h f g = absurd (cc)
-one_sound before e input out outs passed as_passed (inr found) (inl (refused, is, same)) f g = absurd (cc)
-one_sound before e input out outs passed as_passed (inr (v, spells, d)) (inr (w, other, h)) f g =
-    one_in before e input v out outs passed as_passed d (subst (λ x. IsDueIn before e as_passed input x (Ok outs)) (at_most_one input w v other spells) h) f g
+one_sound before e input out outs passed as_passed certain (inl (refused, is, same)) h f g = absurd (cc)
+one_sound before e input out outs passed as_passed certain (inr found) (inl (refused, is, same)) f g = absurd (cc)
+one_sound before e input out outs passed as_passed certain (inr (v, spells, d)) (inr (w, other, h)) f g =
+    one_in before e input v out outs passed as_passed certain d (subst (λ x. IsDueIn before e as_passed input x (Ok outs)) (at_most_one input w v other spells) h) f g
 
 pub one_verdict : HasOneVerdict
-one_verdict (Capability c) input out outs passed as_passed d h f g = f ∙ sym g
-one_verdict (Source c) input out outs passed as_passed d h f g = f ∙ sym g
-one_verdict (Difference c) input out outs passed as_passed d h f g = elim d [ ]
-one_verdict (Entry e) input out outs passed as_passed d h f g = one_sound [] e input out outs passed as_passed d h f g
+one_verdict (Capability c) input out outs passed as_passed certain d h f g = f ∙ sym g
+one_verdict (Source c) input out outs passed as_passed certain d h f g = f ∙ sym g
+one_verdict (Difference c) input out outs passed as_passed certain d h f g = elim d [ ]
+one_verdict (Entry e) input out outs passed as_passed certain d h f g = one_sound [] e input out outs passed as_passed certain d h f g
 
 -- ---- files
 
@@ -177,51 +176,51 @@ module _ (known : Option (List ℕ)) (action : Action) (called : List ℕ → Li
         (none ∙ sym empty, s ∙ ap (λ w. status_for (Err w)) fault_is ∙ sym t, subst (λ (l : List ℕ). One l lines) (sym at) (subst (One (called told)) (sym same) both))
 
 -- the output of a file, or its fault
-module _ (job : Job) (name contents : List ℕ) where
+module _ (job : Job) (name contents : List ℕ) (certain : IsOneOf job.e) where
   one_due : (passed as_passed : Bool) (r q : Result (List ℕ) ToolFault) → IsDueOfJob job name contents passed r → IsDueOfJob job name contents as_passed q → r ≡ q
   one_due passed as_passed (Ok out) (Ok outs) (plain, is, same) (plains, too, also) =
-      let one : Ok plain ≡ Ok plains = one_of (before_findings job.are_several name) job.e passed as_passed contents (Ok plain) (Ok plains) is too in
+      let one : Ok plain ≡ Ok plains = one_of (before_findings job.are_several name) job.e passed as_passed contents (Ok plain) (Ok plains) certain is too in
       let text : plain ≡ plains = cc in
       ap Ok (same ∙ ap (result_of_file job.are_several job.e name) text ∙ sym also)
   one_due passed as_passed (Ok out) (Err why) (plain, is, same) too =
-      let one : Ok plain ≡ Err why = one_of (before_findings job.are_several name) job.e passed as_passed contents (Ok plain) (Err why) is too in absurd (cc)
+      let one : Ok plain ≡ Err why = one_of (before_findings job.are_several name) job.e passed as_passed contents (Ok plain) (Err why) certain is too in absurd (cc)
   one_due passed as_passed (Err why) (Ok out) is (plain, too, same) =
-      let one : Err why ≡ Ok plain = one_of (before_findings job.are_several name) job.e passed as_passed contents (Err why) (Ok plain) is too in absurd (cc)
-  one_due passed as_passed (Err why) (Err other) is too = one_of (before_findings job.are_several name) job.e passed as_passed contents (Err why) (Err other) is too
+      let one : Err why ≡ Ok plain = one_of (before_findings job.are_several name) job.e passed as_passed contents (Err why) (Ok plain) certain is too in absurd (cc)
+  one_due passed as_passed (Err why) (Err other) is too = one_of (before_findings job.are_several name) job.e passed as_passed contents (Err why) (Err other) certain is too
 
 pub one_file : FileHasOneResult
-one_file job name contents out outs line lines status code low high (answer, s, is) (other, t, too) =
-    led (hints job.has_advice contents) (Entry job.e) (file_line name) contents (IsDueOfJob job name contents) (one_due job name contents)
-    (λ passed as_passed out outs (plain, due, same) (plains, also, again) finds found. one_sound (before_findings job.are_several name) job.e contents plain plains passed as_passed due also finds found)
+one_file job name contents out outs line lines status code certain low high (answer, s, is) (other, t, too) =
+    led (hints job.has_advice contents) (Entry job.e) (file_line name) contents (IsDueOfJob job name contents) (one_due job name contents certain)
+    (λ passed as_passed out outs (plain, due, same) (plains, also, again) finds found. one_sound (before_findings job.are_several name) job.e contents plain plains passed as_passed certain due also finds found)
     out outs line lines status code low high answer other s t is too
 
 pub one_input : InputHasOneResult
-one_input has_advice action (Contents bytes) out outs line lines status code low high (answer, s, is) (other, t, too) =
-    led (hints has_advice (front_of action bytes)) action (λ told. told) bytes (λ passed. IsAnswer action passed bytes) (λ passed as_passed. one_answer action bytes passed as_passed) (λ passed as_passed out outs. one_verdict action bytes out outs passed as_passed)
+one_input has_advice action (Contents bytes) out outs line lines status code certain low high (answer, s, is) (other, t, too) =
+    led (hints has_advice (front_of action bytes)) action (λ told. told) bytes (λ passed. IsAnswer action passed bytes) (λ passed as_passed r q. one_answer action bytes passed as_passed r q certain) (λ passed as_passed out outs. one_verdict action bytes out outs passed as_passed certain)
     out outs line lines status code low high answer other s t is too
-one_input has_advice action Unread out outs line lines status code low high (none, is, s) (empty, too, t) = (none ∙ sym empty, s ∙ sym t, inl (is ∙ sym too))
-one_input has_advice action NoMemory out outs line lines status code low high (none, is, s) (empty, too, t) = (none ∙ sym empty, s ∙ sym t, inl (is ∙ sym too))
+one_input has_advice action Unread out outs line lines status code certain low high (none, is, s) (empty, too, t) = (none ∙ sym empty, s ∙ sym t, inl (is ∙ sym too))
+one_input has_advice action NoMemory out outs line lines status code certain low high (none, is, s) (empty, too, t) = (none ∙ sym empty, s ∙ sym t, inl (is ∙ sym too))
 
 -- ---- runs
 
-one_outcome : (job : Job) (name : List ℕ) (supply : Supply) (out outs line lines : List ℕ) (status code : ℕ) → status ≢ 6 → code ≢ 6 → IsOutcome job name supply out line status
+one_outcome : (job : Job) (name : List ℕ) (supply : Supply) (out outs line lines : List ℕ) (status code : ℕ) → IsOneOf job.e → status ≢ 6 → code ≢ 6 → IsOutcome job name supply out line status
     → IsOutcome job name supply outs lines code → (out ≡ outs) × (status ≡ code)
-one_outcome job name (Contents bytes) out outs line lines status code low high led too =
-    let one = one_file job name bytes out outs line lines status code low high led too in (one.0, one.1)
-one_outcome job name Unread out outs line lines status code low high (reason, missing, none, is, s) (other, lost, empty, too, t) = (none ∙ sym empty, s ∙ sym t)
-one_outcome job name NoMemory out outs line lines status code low high (none, is, s) too = absurd (low s)
+one_outcome job name (Contents bytes) out outs line lines status code certain low high led too =
+    let one = one_file job name bytes out outs line lines status code certain low high led too in (one.0, one.1)
+one_outcome job name Unread out outs line lines status code certain low high (reason, missing, none, is, s) (other, lost, empty, too, t) = (none ∙ sym empty, s ∙ sym t)
+one_outcome job name NoMemory out outs line lines status code certain low high (none, is, s) too = absurd (low s)
 
 pub one_run : RunsHaveOneResult
-one_run known other job a b c d [] [] did too named same low high = (refl, refl)
-one_run known other job a b c d [] (e ∷ es) did too named same low high = absurd (cc (same))
-one_run known other job a b c d (e ∷ es) [] did too named same low high = absurd (cc (same))
-one_run known other job a b c d (e ∷ es) (f ∷ fs) (between, did, dids) (amid, also, alsos) named same (low, lows) (high, highs) =
+one_run known other job a b c d [] [] certain did too named same low high = (refl, refl)
+one_run known other job a b c d [] (e ∷ es) certain did too named same low high = absurd (cc (same))
+one_run known other job a b c d (e ∷ es) [] certain did too named same low high = absurd (cc (same))
+one_run known other job a b c d (e ∷ es) (f ∷ fs) certain (between, did, dids) (amid, also, alsos) named same (low, lows) (high, highs) =
     let names : e.file.name ≡ f.file.name = cc in
     let supplies : e.supply ≡ f.supply = cc in
     let others : map (λ x. x.file.name) es ≡ map (λ x. x.file.name) fs = cc in
     let rest : map (λ x. x.supply) es ≡ map (λ x. x.supply) fs = cc in
     let Led : List ℕ → Supply → Type 0 = λ name supply. IsOutcome job name supply f.out f.line f.status in
     let led = subst (λ (n : List ℕ). Led n e.supply) (sym names) (subst (Led f.file.name) (sym supplies) also.led) in
-    let one = one_outcome job e.file.name e.supply e.out f.out e.line f.line e.status f.status low high did.led led in
-    let more = one_run known other job between b amid d es fs dids alsos others rest lows highs in
+    let one = one_outcome job e.file.name e.supply e.out f.out e.line f.line e.status f.status certain low high did.led led in
+    let more = one_run known other job between b amid d es fs certain dids alsos others rest lows highs in
     (ap (λ o. o ∷ map (λ x. x.out) es) one.0 ∙ ap (λ os. f.out ∷ os) more.0, ap (λ n. max n (greatest_status es)) one.1 ∙ ap (max f.status) more.1)

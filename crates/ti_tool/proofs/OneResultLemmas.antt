@@ -25,7 +25,6 @@ use Rattle.ti_expand.specs.Meaning.{meaning}
 use Rattle.ti_expand.specs.Expands.{IsFirstTooLong}
 use Rattle.ti_escape.specs.declared.color.Color.{Color}
 use Rattle.ti_lint.specs.declared.lint_options.LintOptions.{LintOptions}
-use Rattle.ti_report.proofs.OneReportLemmas.{one_findings, one_lines}
 use Rattle.ti_trace.proofs.OneTraceLemmas.{is_one_trace, is_one_trace_json}
 use Rattle.ti_pad.specs.Setting.{Setting}
 use Rattle.ti_pad.specs.Padded.{padded_text}
@@ -41,7 +40,7 @@ use Rattle.ti_line.specs.declared.request.EntryAction.{EntryAction}
 use Rattle.ti_line.specs.declared.request.EntryAction.TheVariants as of_entry
 use Rattle.ti_tool.specs.declared.fault.ToolFault.{ToolFault}
 use Rattle.ti_tool.specs.declared.fault.ToolFault.TheVariants as fault
-use Rattle.ti_tool.specs.Laws.{HasOneAnswer}
+use Rattle.ti_tool.specs.Laws.{HasOneAnswer, IsOneOf}
 use Rattle.ti_line.specs.Options.{output_bytes}
 use Rattle.ti_line.specs.declared.options.Document.{Document}
 use Rattle.ti_line.specs.declared.options.Document.TheVariants as documents
@@ -315,17 +314,18 @@ one_traced_of t v r s (item, called, d) (other, again, h) =
 -- ---- documents
 
 one_list : (document : Document) (passed as_passed : Bool) (input : List ℕ) (v : EntryValue) (objects others : List Data)
-    → AreObjects document passed input v objects → AreObjects document as_passed input v others → objects ≡ others
-one_list documents.Listing passed as_passed input v objects others are are_too = are ∙ sym are_too
-one_list (documents.Verdicts which) passed as_passed input v objects others are are_too = (one_objects which v objects others passed as_passed are are_too).0
-one_list (documents.Findings options) passed as_passed input v objects others are are_too = (one_findings options input v passed as_passed objects others are are_too).0
+    → IsOneOf (of_entry.Json document) → AreObjects document passed input v objects → AreObjects document as_passed input v others → objects ≡ others
+one_list documents.Listing passed as_passed input v objects others certain are are_too = are ∙ sym are_too
+one_list (documents.Verdicts which) passed as_passed input v objects others certain are are_too = (one_objects which v objects others passed as_passed are are_too).0
+one_list (documents.Findings options) passed as_passed input v objects others certain are are_too = absurd certain
 
-one_document : (document : Document) (passed as_passed : Bool) (input : List ℕ) (v : EntryValue) (r s : Result (List ℕ) ToolFault) → IsDocument document passed input v r
+one_document : (document : Document) (passed as_passed : Bool) (input : List ℕ) (v : EntryValue) (r s : Result (List ℕ) ToolFault)
+    → IsOneOf (of_entry.Json document) → IsDocument document passed input v r
     → IsDocument document as_passed input v s → r ≡ s
-one_document document passed as_passed input v (Ok a) (Ok b) (objects, are, e) (others, are_too, f) =
-    ap Ok (e ∙ ap (λ ds. array_text ds ++ codes "\n") (one_list document passed as_passed input v objects others are are_too) ∙ sym f)
-one_document document passed as_passed input v (Ok a) (Err e) d h = absurd h
-one_document document passed as_passed input v (Err e) s d h = absurd d
+one_document document passed as_passed input v (Ok a) (Ok b) certain (objects, are, e) (others, are_too, f) =
+    ap Ok (e ∙ ap (λ ds. array_text ds ++ codes "\n") (one_list document passed as_passed input v objects others certain are are_too) ∙ sym f)
+one_document document passed as_passed input v (Ok a) (Err e) certain d h = absurd h
+one_document document passed as_passed input v (Err e) s certain d h = absurd d
 
 document_never : (document : Document) (passed : Bool) (input : List ℕ) (v : EntryValue) → IsNeverOwn (IsDocument document passed input v)
 document_never document passed input v = record { no_write = λ gone d. d; no_memory = λ d. d }
@@ -340,33 +340,27 @@ one_for_text : (c : CapabilityResult) (parameters : List Value) (text : Result (
 one_for_text c parameters (Ok text) = one_output c parameters text
 one_for_text c parameters (Err e) = λ r s d h. d ∙ sym h
 
-one_linted : (options : LintOptions) (color : Color) (before : List ℕ) (passed as_passed : Bool) (input : List ℕ) (v : EntryValue) (r s : Result (List ℕ) ToolFault)
-    → IsLinted options color before passed input v r → IsLinted options color before as_passed input v s → r ≡ s
-one_linted options color before passed as_passed input v (Ok a) (Ok b) d h = ap Ok (one_lines options color before input v a b d.0 h.0)
-one_linted options color before passed as_passed input v (Ok a) (Err e) d h = absurd h
-one_linted options color before passed as_passed input v (Err e) s d h = absurd d
-
 one_on : (before : List ℕ) (e : EntryAction) (passed as_passed : Bool) (input : List ℕ) (v : EntryValue) (r s : Result (List ℕ) ToolFault)
-    → IsDueIn before e passed input v r → IsDueIn before e as_passed input v s → r ≡ s
-one_on before (of_entry.Show options) passed as_passed input v r s d h = d ∙ sym h
-one_on before (of_entry.Json document) passed as_passed input v r s d h = one_document document passed as_passed input v r s d h
-one_on before (of_entry.Check which naming) passed as_passed input v r s d h = one_judgement which naming v passed as_passed r s d h
-one_on before (of_entry.Lint options color) passed as_passed input v r s d h = one_linted options color before passed as_passed input v r s d h
-one_on before (of_entry.Expand e) passed as_passed input v r s d h = one_due_for e.name.names e.name.name.now e.parameters.values e.padding e.output v r s d h
-one_on before (of_entry.Get g) passed as_passed input v r s d h = one_got g passed as_passed v r s d h
-one_on before (of_entry.Trace t) passed as_passed input v r s d h = one_traced_of t v r s d h
-one_on before (of_entry.Convert width) passed as_passed input v r s d h = one_encoding (in_width width v) r s d h
+    → IsOneOf e → IsDueIn before e passed input v r → IsDueIn before e as_passed input v s → r ≡ s
+one_on before (of_entry.Show options) passed as_passed input v r s certain d h = d ∙ sym h
+one_on before (of_entry.Json document) passed as_passed input v r s certain d h = one_document document passed as_passed input v r s certain d h
+one_on before (of_entry.Check which naming) passed as_passed input v r s certain d h = one_judgement which naming v passed as_passed r s d h
+one_on before (of_entry.Lint options color) passed as_passed input v r s certain d h = absurd certain
+one_on before (of_entry.Expand e) passed as_passed input v r s certain d h = one_due_for e.name.names e.name.name.now e.parameters.values e.padding e.output v r s d h
+one_on before (of_entry.Get g) passed as_passed input v r s certain d h = one_got g passed as_passed v r s d h
+one_on before (of_entry.Trace t) passed as_passed input v r s certain d h = one_traced_of t v r s d h
+one_on before (of_entry.Convert width) passed as_passed input v r s certain d h = one_encoding (in_width width v) r s d h
 
 pub one_of : (before : List ℕ) (e : EntryAction) (passed as_passed : Bool) (input : List ℕ) (r s : Result (List ℕ) ToolFault)
-    → IsDueOf before e passed input r → IsDueOf before e as_passed input s → r ≡ s
-one_of before e passed as_passed input r s d h =
-    one_from input (IsDueIn before e passed input) (IsDueIn before e as_passed input) (one_on before e passed as_passed input) r s d h
+    → IsOneOf e → IsDueOf before e passed input r → IsDueOf before e as_passed input s → r ≡ s
+one_of before e passed as_passed input r s certain d h =
+    one_from input (IsDueIn before e passed input) (IsDueIn before e as_passed input) (λ v p q a b. one_on before e passed as_passed input v p q certain a b) r s d h
 
 pub one_answer : HasOneAnswer
-one_answer (Capability c) input passed as_passed r s d h = one_output c.result c.parameters.values input r s d h
-one_answer (Source c) input passed as_passed r s d h = one_for_text c.result c.parameters.values (text_in_source input) r s d h
-one_answer (Difference e) input passed as_passed r s d h = elim d [ ]
-one_answer (Entry e) input passed as_passed r s d h = one_of [] e passed as_passed input r s d h
+one_answer (Capability c) input passed as_passed r s certain d h = one_output c.result c.parameters.values input r s d h
+one_answer (Source c) input passed as_passed r s certain d h = one_for_text c.result c.parameters.values (text_in_source input) r s d h
+one_answer (Difference e) input passed as_passed r s certain d h = elim d [ ]
+one_answer (Entry e) input passed as_passed r s certain d h = one_of [] e passed as_passed input r s certain d h
 
 -- ---- the faults of a call itself
 

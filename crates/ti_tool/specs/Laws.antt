@@ -7,7 +7,10 @@ use Rattle.ti_draft.specs.Canonical.{canonical}
 use Rattle.ti_line.specs.declared.options.Comparison.{Comparison}
 use Rattle.ti_line.specs.declared.options.Likeness.{Likeness}
 use Rattle.ti_line.specs.declared.request.Action.{Action}
+use Rattle.ti_line.specs.declared.options.Document.TheVariants as documents
 use Rattle.ti_line.specs.declared.request.Action.TheVariants.{Entry}
+use Rattle.ti_line.specs.declared.request.EntryAction.{EntryAction}
+use Rattle.ti_line.specs.declared.request.EntryAction.TheVariants as of_entry
 use Rattle.ti_tool.specs.declared.fault.ToolFault.{ToolFault}
 use Rattle.ti_tool.specs.Comparisons.{IsCompared}
 use Rattle.ti_tool.specs.declared.fault.ToolFault.TheVariants as fault
@@ -24,17 +27,28 @@ WideAndBack = (input wide back : List ℕ) (v : EntryValue) → Spells input v �
     → IsConverted (Some Wide) input (Ok wide) → IsConverted (Some Legacy) wide (Ok back)
     → back ≡ canonical v
 
+-- what strings make a terminal do is followed along all paths, which finds all and may find more: so a report is not one by what it
+-- means, but for the same findings on that (`reports_are_one` of ti_report), and each other result is
+abbrev pub IsOneOf : EntryAction → Type 0
+IsOneOf (of_entry.Lint options color) = ⊥
+IsOneOf (of_entry.Json (documents.Findings options)) = ⊥
+IsOneOf action = Unit {0}
+
+abbrev pub IsOneFor : Action → Type 0
+IsOneFor (Entry e) = IsOneOf e
+IsOneFor action = Unit {0}
+
 -- at most one result or fault is due for an action and the bytes that are read
 abbrev pub HasOneAnswer : Type 0
 HasOneAnswer = (action : Action) (input : List ℕ)
     (passed other_passed : Bool) (one other : Result (List ℕ) ToolFault)
-    → IsAnswer action passed input one → IsAnswer action other_passed input other
+    → IsOneFor action → IsAnswer action passed input one → IsAnswer action other_passed input other
     → one ≡ other
 
 -- and something is wrong in what was read, or a flag is not set, or that is not so
 abbrev pub HasOneVerdict : Type 0
 HasOneVerdict = (action : Action) (input one other : List ℕ) (passed other_passed : Bool)
-    → IsAnswer action passed input (Ok one) → IsAnswer action other_passed input (Ok other)
+    → IsOneFor action → IsAnswer action passed input (Ok one) → IsAnswer action other_passed input (Ok other)
     → Finds action passed → Finds action other_passed → passed ≡ other_passed
 
 -- two runs write the same bytes and the same line on a fault, and end with the same status
@@ -61,7 +75,7 @@ AreOneLine action called line other =
 -- the contents of a file lead to one result, status and line, if memory is not refused
 abbrev pub FileHasOneResult : Type 0
 FileHasOneResult = (job : Job) (name contents out outs line lines : List ℕ) (status code : ℕ)
-    → status ≢ 6 → code ≢ 6
+    → IsOneOf job.e → status ≢ 6 → code ≢ 6
     → IsOutcomeOfContents job name contents out line status
     → IsOutcomeOfContents job name contents outs lines code
     → (out ≡ outs) × (status ≡ code) × AreOneLine (Entry job.e) (file_line name) line lines
@@ -69,7 +83,7 @@ FileHasOneResult = (job : Job) (name contents out outs line lines : List ℕ) (s
 -- so does what is read of standard input
 abbrev pub InputHasOneResult : Type 0
 InputHasOneResult = (has_advice : Bool) (action : Action) (supply : Supply) (out outs line lines : List ℕ) (status code : ℕ)
-    → status ≢ 6 → code ≢ 6
+    → IsOneFor action → status ≢ 6 → code ≢ 6
     → IsOutcomeOfInput has_advice action supply out line status → IsOutcomeOfInput has_advice action supply outs lines code
     → (out ≡ outs) × (status ≡ code) × AreOneLine action (λ told. told) line lines
 
@@ -81,7 +95,7 @@ HadMemory (done ∷ dones) = (done.status ≢ 6) × HadMemory dones
 -- runs over the same files with the same contents write the same results and end with the same status
 abbrev pub RunsHaveOneResult : Type 0
 RunsHaveOneResult = (known other : KnownFiles) (job : Job) (a b c d : Streams) (dones others : List DoneFile)
-    → DidFiles known job a b dones → DidFiles other job c d others
+    → IsOneOf job.e → DidFiles known job a b dones → DidFiles other job c d others
     → map (λ done. done.file.name) dones ≡ map (λ done. done.file.name) others
     → map (λ done. done.supply) dones ≡ map (λ done. done.supply) others
     → HadMemory dones → HadMemory others

@@ -10,32 +10,17 @@ use Rattle.ti_cap.specs.declared.language.Op.TheVariants.{Sub}
 use Rattle.ti_cap.specs.declared.language.Token.TheVariants.{Byte, Char, Compute, CondClose, CondElse, CondOpen, CondThen, Constant, Increment, Param, Print}
 use Rattle.ti_cap.specs.declared.language.Token.{Token}
 use Rattle.ti_cap.specs.declared.mode.Mode.TheVariants.{Run}
-use Rattle.ti_control.specs.Capabilities.{capabilities_of}
-use Rattle.ti_control.specs.Characters.{shapes}
-use Rattle.ti_control.specs.Functions.{functions_from}
-use Rattle.ti_control.specs.Numbers.{numbers_from}
-use Rattle.ti_control.specs.Strings.{content_len}
-use Rattle.ti_control.specs.declared.effect.Effect.TheVariants.{Answer, Clipboard}
-use Rattle.ti_control.specs.declared.effect.Effect.{Effect}
-use Rattle.ti_control.specs.declared.sent_byte.SentByte.TheVariants.{Data, Plain, Printed}
 use Rattle.ti_expand.specs.State.{start}
 use Rattle.ti_expand.specs.Steps.{steps}
-use Rattle.ti_values.specs.Arms.{all_avoid, arm_bytes, is_active}
 use Rattle.ti_values.specs.Attributes.{lacks_part}
 use Rattle.ti_values.specs.Axes.{numbers_differ}
-use Rattle.ti_values.specs.Controls.{Found, counted}
-use Rattle.ti_values.specs.Idle.{is_idle_text}
 use Rattle.ti_values.specs.Negative.{some_negative}
-use Rattle.ti_values.specs.Outputs.{plain_found}
 use Rattle.ti_values.specs.Ranges.{parameters_of, values}
 use Rattle.ti_values.specs.Renditions.{are_parts, are_parts_after, lacks_new, parameters, shifts, split_after}
-use Rattle.ti_values.specs.Samples.{few_samples, samples_over}
 use Rattle.ti_values.specs.Sent.{fresh}
-use Rattle.ti_values.specs.SentBytes.{SendsFrom, bytes_of, from_start, origin, placed, plain_bytes, unmarked, unmarked_from}
 use Rattle.ti_values.specs.Sequences.{is_ansi}
 use Rattle.ti_values.specs.declared.axes.Axes.TheVariants.{Both, Line, Column, Lines}
 use Rattle.ti_values.specs.declared.range.Range.TheVariants.{Numbers}
-use Rattle.ti_values.specs.declared.samples.Sample.TheVariants.{Try}
 use Rattle.ti_values.specs.declared.tried.Tried.TheVariants.{Number}
 
 -- ---- parameters and shifts
@@ -103,80 +88,3 @@ axes_rows : (numbers_differ Line (escape (codes "[1;1H")) (escape (codes "[0d"))
     × (numbers_differ Column (escape (codes "[1;1H")) (escape (codes "[01G")) ≡ false) × (numbers_differ Line (escape (codes "[1;1H")) (escape (codes "[?0d")) ≡ false)
 unfolding escape
 axes_rows = (refl, refl, refl, refl, refl, refl)
-
--- ---- texts that can send no control function with an effect: a rendition, and none: a request, a mode of keys, an OSC
-
-idle_rows : (is_idle_text (escape (codes "[7m")) ≡ true) × (is_idle_text (escape (codes "[6n")) ≡ false) × (is_idle_text (escape (codes "[>4;1m")) ≡ false)
-    × (is_idle_text (escape (codes "]0;")) ≡ false)
-unfolding escape
-idle_rows = (refl, refl, refl, refl)
-
--- ---- where a byte comes from: an ESC of a constant, and of a parameter; of a number, of a text, and of the text itself
-
-origin_rows : (origin true Char 27 ≡ Plain 27) × (origin false Char 27 ≡ Data 27) × (origin false (printed Signed) 54 ≡ Printed 54)
-    × (origin false (printed Text) 97 ≡ Data 97) × (origin false (Byte 91) 91 ≡ Plain 91)
-unfolding printed
-origin_rows = (refl, refl, refl, refl, refl)
-
--- a delay is not sent, and what is none is
-mark_rows : (unmarked (plain_bytes (codes "a$<5>b")) ≡ placed (Plain 97) 0 ∷ placed (Plain 98) 5 ∷ []) × (bytes_of (unmarked (plain_bytes (codes "$<x>"))) ≡ codes "$<x>")
-unfolding unmarked_from
-mark_rows = (refl, refl)
-
--- `%i%c` of a stack without values: the byte of `%c` is data, at the place of `%c`
-sends_row : SendsFrom (from_start (codes "%i%c")) Run (start fresh (parameters_of (Number 6))) false (Increment ∷ Char ∷ []) (placed (Data 128) 2 ∷ [])
-unfolding int_wrap
-sends_row = (
-  record { taken = codes "%i"; left = codes "%c" },
-  _,
-  (codes "%i", inr (codes "i", refl, refl), refl, refl),
-  (record { taken = codes "%i%c"; left = [] }, [], (codes "%c", inr (codes "c", refl, refl), refl, refl), (refl, refl), refl),
-  refl,
-)
-
--- ---- control functions, with their places, by both readings: one for the clipboard in `clear` and in `Ms`, a request after a bold, a mark
--- of padding within one, and none: a rendition
-
-found_at : List ℕ → List ℕ → List (Effect × ℕ)
-found_at name text = map (λ f. (f.effect, f.place)) (plain_found (record { capability = name; is_ecma = true; after = [] }) text)
-
-found_rows : (found_at (codes "clear") (escape (codes "]52;c;YQ==") ++ 7 ∷ []) ≡ (Clipboard, 0) ∷ (Clipboard, 0) ∷ [])
-    × (found_at (codes "Ms") (escape (codes "]52;c;YQ==") ++ 7 ∷ []) ≡ [])
-    × (found_at (codes "bold") (escape (codes "[1m") ++ escape (codes "[6n")) ≡ (Answer, 4) ∷ (Answer, 4) ∷ [])
-    × (found_at (codes "bold") (escape (codes "[$<5>6n")) ≡ (Answer, 0) ∷ (Answer, 0) ∷ []) × (found_at (codes "bold") (escape (codes "[1m")) ≡ [])
-unfolding found_at escape unmarked_from functions_from content_len shapes numbers_from capabilities_of
-found_rows = (refl, refl, refl, refl, refl)
-
--- a request in some output counts, with a printed number in each output or in the arms
-request : Bool → Found
-request is_printed = record { effect = Answer; place = 0; printed = is_printed; label = codes "CSI"; content = codes "6n"; purpose = [] }
-
-counted_rows : (counted ([] ∷ (request false ∷ []) ∷ []) [] Answer ≡ Some (request false))
-    × (counted ((request true ∷ []) ∷ [] ∷ []) [] Answer ≡ None) × (counted ((request true ∷ []) ∷ (request true ∷ []) ∷ []) [] Answer ≡ Some (request true))
-    × (counted ([] ∷ []) (request true ∷ []) Answer ≡ Some (request true)) × (counted ((request false ∷ []) ∷ []) [] Clipboard ≡ None)
-unfolding request
-counted_rows = (refl, refl, refl, refl, refl)
-
--- ---- samples: of two colors, and of a terminal without colors
-
-sample_rows : (samples_over (Numbers 0 2) ≡ Try (Number 0) ∷ Try (Number 1) ∷ []) × (samples_over (Numbers 0 0) ≡ few_samples)
-unfolding values
-sample_rows = (refl, refl)
-
--- ---- arms: `%{27}%c`, `%c` and `%d` of a parameter, and what writes nothing
-
-arm_rows : (arm_bytes (Some (pos 27)) Char ≡ Plain 27 ∷ []) × (arm_bytes None Char ≡ Data 48 ∷ []) × (arm_bytes None (printed Signed) ≡ Printed 48 ∷ [])
-    × (arm_bytes None (Param 1) ≡ [])
-unfolding printed
-arm_rows = (refl, refl, refl, refl)
-
-active_rows : (is_active (letter (codes "c")) ≡ true) × (is_active 155 ≡ true) × (is_active 5 ≡ true) × (is_active (letter (codes "m")) ≡ false) × (is_active 27 ≡ false)
-active_rows = (refl, refl, refl, refl, refl)
-
--- `%p1%dm` beside `>` and beside `m`; a byte of a parameter, and of a constant; and a number that is not decimal
-avoid_rows : (all_avoid (letter (codes ">")) false (Param 1 ∷ printed Signed ∷ Byte 109 ∷ []) ≡ true)
-    × (all_avoid (letter (codes "m")) false (Param 1 ∷ printed Signed ∷ Byte 109 ∷ []) ≡ false)
-    × (all_avoid (letter (codes "m")) false (Param 1 ∷ Char ∷ []) ≡ true) × (all_avoid (letter (codes "m")) false (Constant (pos 99) ∷ Char ∷ []) ≡ false)
-    × (all_avoid (letter (codes "m")) false (Param 1 ∷ printed Octal ∷ []) ≡ false)
-unfolding printed
-avoid_rows = (refl, refl, refl, refl, refl)

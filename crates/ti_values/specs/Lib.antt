@@ -1,17 +1,11 @@
-pub mod Arms
 pub mod Attributes
 pub mod Axes
-pub mod Controls
 pub mod Findings
-pub mod Idle
 pub mod Limits
 pub mod Negative
-pub mod Outputs
 pub mod Ranges
 pub mod Renditions
-pub mod Samples
 pub mod Screens
 pub mod Sent
-pub mod SentBytes
 pub mod Sequences
 pub mod inner

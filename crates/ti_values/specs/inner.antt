@@ -1,5 +1,4 @@
 -- What private clauses alone cite.
-pub mod Founds
 pub mod Rate
 pub mod Rows
 pub mod Underway

@@ -6,45 +6,31 @@
 //! value, and of a search among as many texts.
 #![tactic(auto)]
 
-mod arms;
 mod attribute;
 mod axes;
-mod controls;
 mod empty;
 mod lacking;
-pub mod laws;
 mod limits;
 mod list;
 mod negative;
-mod outputs;
-mod placed;
 mod range;
 mod rendition;
 mod same;
-mod samples;
 mod screen;
 mod sent;
 mod sequence;
 mod tried;
 
-pub use arms::{arms_of, avoids_all, is_active};
 pub use attribute::{attributes, first_combination, is_different, is_ignored};
 pub use axes::{Axes, numbers_differ};
-pub use controls::{FoundFunction, counted, found_in};
 pub use empty::first_empty;
 pub use limits::{
     MOST_BYTES, MOST_COLORS, MOST_COLUMNS, MOST_LINES, MOST_WRITTEN_BYTES, is_short, limits_agree,
 };
 pub use list::sent_at;
 pub use negative::first_negative;
-pub use outputs::{
-    arms_found, is_idle, names_parameter, outputs_for, plain_found, plain_outputs, samples_of,
-    tried_over,
-};
-pub use placed::{PlacedByte, plain_bytes, sent_bytes};
 pub use range::{Range, values_of};
 pub use same::{Same, first_same};
-pub use samples::{Sample, few_samples, samples_over};
 pub use screen::tried_texts;
 pub use sent::{sent_by, sent_for};
 pub use sequence::{first_shown, first_unended, has_unended, is_ansi};

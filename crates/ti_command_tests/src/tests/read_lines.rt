@@ -32,6 +32,7 @@ ti lint --all => Entry(Lint(LintOptions { level: All, untrusted: false }, Never)
 ti lint --json => Entry(Json(Findings(LintOptions { level: Errors, untrusted: false })))
 ti lint --untrusted => Entry(Lint(LintOptions { level: Errors, untrusted: true }, Never))
 ti lint --untrusted --json --all => Entry(Json(Findings(LintOptions { level: All, untrusted: true })))
+ti diff b => Difference(Pair { file: "-", other: "b", likeness: Bytes, form: Lines(Never) })
 ti diff a b --json --expand => Difference(Pair { file: "a", other: "b", likeness: Tokens, form: Json })
 ti show => Entry(Show(ListOptions { naming: Naming { table: Common, form: Raw }, form: Hex }))
 ti show --escape => Entry(Show(ListOptions { naming: Naming { table: Common, form: Notation }, form: Notation }))
@@ -166,6 +167,7 @@ ti diff --color never a b => Difference(Pair { file: "a", other: "b", likeness: 
 ti diff --json a b => Difference(Pair { file: "a", other: "b", likeness: Bytes, form: Json })
 # Runs of bytes of a trace are joined.
 ti trace --of cup -e => Entry(Trace(TraceOf { name: "cup", given: None, form: Lines(TraceOptions { form: Notation, color: Always, rows: Joined }) }))
+ti trace n:7 => Capability(CapabilityAction { parameters: ParameterValues { values: [Num(7), Num(0), Num(0), Num(0), Num(0), Num(0), Num(0), Num(0), Num(0)] }, result: Trace(Lines(TraceOptions { form: Hex, color: Always, rows: Joined })) })
 ti trace --json --of cup => Entry(Trace(TraceOf { name: "cup", given: None, form: Json }))
 # An entry goes to a terminal by force alone.
 ti convert --force --wide => Entry(Convert(Some(Wide)))

@@ -17,6 +17,9 @@ const TWICE: &[u8] =
 const ONCE: &[u8] =
     b"\x1a\x01\x02\0\x01\0\x01\0\x02\0\x02\0t\0\x01\0P\0\xff\xff\0\0\x07\0\x01\0\0\0\0\0\x01\0\x02\0\x01\0\0\0A\0";
 
+/// The small entry with an enquiry in `bel`.
+const ASKING: &[u8] = b"\x1a\x01\x02\0\x01\0\x01\0\x02\0\x02\0t\0\x01\0P\0\xff\xff\0\0\x05\0";
+
 /// The small entry with two percent signs in `bel`, which nothing expands.
 const PERCENT: &[u8] = b"\x1a\x01\x02\0\x01\0\x01\0\x02\0\x04\0t\0\x01\0P\0\xff\xff\0\0\x07%%\0";
 
@@ -71,6 +74,7 @@ const SHELF: &[(&str, &[u8])] = &[
     ("wide", WIDE_BY_TIC),
     ("twice", TWICE),
     ("once", ONCE),
+    ("asking", ASKING),
     ("percent\x1b", PERCENT),
     ("digits", DIGITS),
     ("quoted", QUOTED),
@@ -179,6 +183,7 @@ ti trace | terminal => 4 err capability: UnknownEscape at 25\n  \^Z\^A\^B\\000\^
 ti show gzip | terminal => 3 err gzip: entry: BadMagic at 0\n  this is compressed by gzip; decompress it\n
 ti show packed | terminal => 3 err packed: entry: BadMagic at 0\n  this is no compiled entry; compile a terminfo source with tic -x\n
 ti diff gzip small | terminal => 3 err gzip: entry: BadMagic at 0\n  this is compressed by gzip; decompress it\n
+ti diff small gzip | terminal => 3 err gzip: entry: BadMagic at 0\n  this is compressed by gzip; decompress it\n
 ti show elf | terminal => 3 err elf: entry: BadMagic at 0\n  this is a program or a library\n
 ti show html | terminal => 3 err html: entry: BadMagic at 0\n  this is HTML or XML\n
 ti show source | terminal => 3 err source: entry: BadMagic at 0\n  this is no compiled entry; compile a terminfo source with tic -x\n

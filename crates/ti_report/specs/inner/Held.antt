@@ -11,7 +11,8 @@ use Rattle.ti_report.specs.Findings as findings
 use Rattle.ti_report.specs.declared.reported.Head.{Head}
 use Rattle.ti_report.specs.Reported as reports
 use Rattle.ti_report.specs.Controls as controls
-use Rattle.ti_report.specs.declared.controls.Terminal.{Terminal}
+use Rattle.ti_report.specs.declared.controls.Sending.{Sending}
+use Rattle.ti_report.specs.declared.controls.Sending.TheVariants as sendings
 use Rattle.ti_report.specs.Crashes as crashes
 use Rattle.ti_report.specs.declared.crashes.Before.{Before}
 use Rattle.ti_report.specs.declared.subject.KnownText.{KnownText}
@@ -21,7 +22,6 @@ use Rattle.ti_report.specs.Origins as origins
 use Rattle.ti_report.specs.declared.sent.Trial.{Trial}
 use Rattle.ti_report.specs.Values as values
 use Rattle.ti_values.specs.Sent.{texts_of}
-use Rattle.ti_values.specs.Screens.{tried_texts}
 
 abbrev pub about_held : About → spec.About
 about_held abouts.Entry = spec.OfEntry
@@ -45,8 +45,9 @@ evidence_held (evidences.Sent value sent) = spec.Sent value sent.items
 evidence_held (evidences.SentForTwo one other sent) = spec.SentForTwo one other sent.items
 evidence_held (evidences.Attribute name set) = spec.Attribute name.now set
 evidence_held (evidences.Lacking name set sent text) = spec.Lacking name.now set sent.items text.items
-evidence_held (evidences.Function label content purpose) = spec.Function label.now content.items purpose.now
+evidence_held (evidences.Function words) = spec.Function words.items
 evidence_held (evidences.Named names) = spec.Named names.items
+evidence_held (evidences.Count count) = spec.Count count
 
 abbrev pub before_held : {A : Type 0} → Before A → crashes.Before
 before_held b = record { numbers = b.numbers.items; parameter = b.parameter }
@@ -62,9 +63,9 @@ trial_held t =
 abbrev pub motion_held : Motion → origins.Motion
 motion_held m = record { name = m.subject.name.now; text = m.subject.text.now; sent = m.sent.now }
 
-abbrev pub terminal_held : {A : Type 0} → Terminal A → controls.Terminal
-terminal_held t =
-    record { untrusted = t.untrusted; is_ecma = t.is_ecma; after = t.after.items; rows = tried_texts t.lines t.columns t.colors }
+abbrev pub sending_held : Sending → controls.Sending
+sending_held (sendings.Expanded text) = controls.Expanded text.now
+sending_held (sendings.AsItStands text) = controls.AsItStands text.now
 
 abbrev pub text_held : KnownText → subjects.KnownText
 text_held t =

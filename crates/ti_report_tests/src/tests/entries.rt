@@ -175,6 +175,11 @@ const UNTRUSTED: LintOptions = LintOptions {
     untrusted: true,
 };
 
+const UNTRUSTED_ALL: LintOptions = LintOptions {
+    level: Level::All,
+    untrusted: true,
+};
+
 /// Errors, without color and without a name in front.
 pub const MISTAKES: Look = Look {
     options: ERRORS,
@@ -186,6 +191,8 @@ pub const MISTAKES: Look = Look {
 fn options_of(words: &str) -> LintOptions {
     if words.starts_with("all") {
         ALL
+    } else if words.starts_with("untrusted all") {
+        UNTRUSTED_ALL
     } else if words.starts_with("untrusted") {
         UNTRUSTED
     } else {
@@ -193,7 +200,7 @@ fn options_of(words: &str) -> LintOptions {
     }
 }
 
-/// The options that the first field of a row names: `mistakes`, `all` or `untrusted`, and each `in file` or not.
+/// The options that the first field of a row names: `mistakes`, `all`, `untrusted` or `untrusted all`, and each `in file` or not.
 pub fn look_of(words: &str) -> Look {
     let is_named = words.ends_with("in file");
     Look {

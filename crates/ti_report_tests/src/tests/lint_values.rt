@@ -13,7 +13,6 @@ mistakes | cols#5 | lines#4 | colors#8 | setf=\E[?%?%p1%{0}%=%t0%e%p1%{1}%=%t2%e
 mistakes | cols#5 | lines#4 | colors#8 | cub=%?%p1%{3}%=%t%e\E[%p1%dD%; => cub\n  %?%p1%{3}%=%t%e\\E[%p1%dD%;\n  empty-output: for 3 it sends nothing\n  do: send something for each value, in an otherwise part if need be\n
 # `sgr` of xterm-bold has a letter too many as well.
 mistakes | cols#5 | lines#4 | colors#8 | sgr=\E[0mB => sgr\n  \\E[0mB\n  sgr-text: for no attribute it sends \\E[0mB, of which some is shown\n  do: leave out what is in no sequence\n
-mistakes | cols#5 | lines#4 | colors#8 | cup=\E[%i%p1%d;%p2%dH\E[ => cup\n  \\E[%i%p1%d;%p2%dH\\E[\n  control-sequence: for 0 0 it sends \\E[1;1H\\E[, where a \\E[ is not ended\n  do: write the final byte of the sequence\n
 # A space before a number, which %2d writes, ends no sequence.
 mistakes | cols#5 | lines#4 | colors#8 | cup=\E[%i%p1%d;%p2%dH | csr=\E[%i%p1%2d;%p2%2dr => csr\n  \\E[%i%p1%2d;%p2%2dr\n  control-sequence: for 0 1 it sends \\E[ 1; 2r, where a space stands among the numbers of a \\E[\n  do: write %d or %02d, and no space\n
 # The minus of a number below 0 is reported once.

@@ -1,6 +1,6 @@
 use Rattle.std.proofs.Common.{◌≡◌, List}
 use Rattle.ti_report.specs.Actions.{action_remarks}
-use Rattle.ti_report.specs.Controls.{AreControlRemarks}
+use Rattle.ti_report.specs.Crashes.{AreDivisionRemarks}
 use Rattle.ti_report.specs.Keys.{AreKeyRemarks}
 use Rattle.ti_report.specs.Lines.{InTurn}
 use Rattle.ti_report.specs.NameBytes.{AreNameByteRemarks}
@@ -49,8 +49,8 @@ Actions on = λ all. all ≡ action_remarks on.entry
 abbrev Whole : Rule
 Whole on = λ all. all ≡ whole_remarks on.bytes on.entry
 
-abbrev Controls : Rule
-Controls on = AreControlRemarks on.options.untrusted on.entry
+abbrev Divisions : Rule
+Divisions on = AreDivisionRemarks on.entry
 
 abbrev And : Rule → Rule → Rule
 And Are AreMore on = InTurn (Are on) (AreMore on)
@@ -67,14 +67,14 @@ returns g c =
     let bytes = c.push_name_bytes.new.self in
     let actions = c.push_actions.new.self in
     let whole = c.push_whole.new.self in
-    let last = c.push_controls.new.self in
-    then Texts (And Values (And Sequences (And Pairs (And Origins (And Keys (And Names (And Bytes (And Actions (And Whole Controls))))))))) c.args.self.now texts last c.in_ok-push_texts.ensures
-    (then Values (And Sequences (And Pairs (And Origins (And Keys (And Names (And Bytes (And Actions (And Whole Controls)))))))) texts values last c.in_ok-push_values.ensures
-    (then Sequences (And Pairs (And Origins (And Keys (And Names (And Bytes (And Actions (And Whole Controls))))))) values sequences last c.in_ok-push_sequences.ensures
-    (then Pairs (And Origins (And Keys (And Names (And Bytes (And Actions (And Whole Controls)))))) sequences pairs last (these _ sequences pairs c.in_ok-push_pairs.ensures)
-    (then Origins (And Keys (And Names (And Bytes (And Actions (And Whole Controls))))) pairs origins last c.in_ok-push_origins.ensures
-    (then Keys (And Names (And Bytes (And Actions (And Whole Controls)))) origins keys last c.in_ok-push_keys.ensures
-    (then Names (And Bytes (And Actions (And Whole Controls))) keys names last c.in_ok-push_names.ensures
-    (then Bytes (And Actions (And Whole Controls)) names bytes last c.in_ok-push_name_bytes.ensures
-    (then Actions (And Whole Controls) bytes actions last (these _ bytes actions c.in_ok-push_actions.ensures)
-    (then Whole Controls actions whole last (these _ actions whole c.in_ok-push_whole.ensures) c.in_ok-push_controls.ensures)))))))))
+    let last = c.push_divisions.new.self in
+    then Texts (And Values (And Sequences (And Pairs (And Origins (And Keys (And Names (And Bytes (And Actions (And Whole Divisions))))))))) c.args.self.now texts last c.in_ok-push_texts.ensures
+    (then Values (And Sequences (And Pairs (And Origins (And Keys (And Names (And Bytes (And Actions (And Whole Divisions)))))))) texts values last c.in_ok-push_values.ensures
+    (then Sequences (And Pairs (And Origins (And Keys (And Names (And Bytes (And Actions (And Whole Divisions))))))) values sequences last c.in_ok-push_sequences.ensures
+    (then Pairs (And Origins (And Keys (And Names (And Bytes (And Actions (And Whole Divisions)))))) sequences pairs last (these _ sequences pairs c.in_ok-push_pairs.ensures)
+    (then Origins (And Keys (And Names (And Bytes (And Actions (And Whole Divisions))))) pairs origins last c.in_ok-push_origins.ensures
+    (then Keys (And Names (And Bytes (And Actions (And Whole Divisions)))) origins keys last c.in_ok-push_keys.ensures
+    (then Names (And Bytes (And Actions (And Whole Divisions))) keys names last c.in_ok-push_names.ensures
+    (then Bytes (And Actions (And Whole Divisions)) names bytes last c.in_ok-push_name_bytes.ensures
+    (then Actions (And Whole Divisions) bytes actions last (these _ bytes actions c.in_ok-push_actions.ensures)
+    (then Whole Divisions actions whole last (these _ actions whole c.in_ok-push_whole.ensures) c.in_ok-push_divisions.ensures)))))))))

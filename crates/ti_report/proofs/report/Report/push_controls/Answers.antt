@@ -1,12 +1,10 @@
-use Rattle.std.proofs.Common.{◌≡◌, ◌∙◌, ap₂, subst}
-use Rattle.ti_report.specs.Controls.{AreControlsBy, Terminal, terminal_of}
-use Rattle.ti_report.specs.inner.Growing.{Gains}
-use Rattle.ti_report.specs.inner.Held.{terminal_held}
+use Rattle.std.proofs.Common.{◌≡◌, ◌∙◌, ap}
+use Rattle.ti_report.specs.Controls.{is_ecma_entry}
+use Rattle.ti_report.proofs.ControlsLemmas.{folded_gains}
 use Rattle.ti_report.proofs.report.Report.push_controls.Goals as goal
 
 pub returns : goal.returns
 returns g c =
-    let old = c.args.self.now in
-    let t : Terminal = terminal_held c.in_ok-terminal.terminal in
-    let same : t ≡ terminal_of old.on.options.untrusted old.on.entry = c.in_ok-terminal.ensures ∙ ap₂ terminal_of c.untrusted-untrusted.ensures c.entry-entry.ensures in
-    subst (λ x. Gains (AreControlsBy x old.on.entry) old c.push_controls_by.new.self) same c.in_ok-push_controls_by.ensures
+    folded_gains c.args.self.now c.push_controls_by.new.self c.fold.new.self c.untrusted.result c.is_ecma_entry.result c.count-first.result
+    c.untrusted.ensures (c.is_ecma_entry.ensures ∙ ap is_ecma_entry c.entry-entry.ensures) c.count-first.ensures c.in_ok-push_controls_by.ensures
+    c.in_ok-fold.ensures.kept c.in_ok-fold.ensures.folded

@@ -1,6 +1,6 @@
 use Rattle.std.proofs.Common.{◌∙◌}
 use Rattle.ti_report.specs.Controls.{AreUnknownControls}
-use Rattle.ti_report.specs.inner.Held.{terminal_held, unknown_held}
+use Rattle.ti_report.specs.inner.Held.{unknown_held}
 use Rattle.ti_report.proofs.ReportsLemmas.{all_end, all_step, no_unknown}
 use Rattle.ti_report.proofs.report.Report.push_unknown_controls.Goals as goal
 
@@ -9,12 +9,12 @@ texts-preserved g c =
     let (kept, told) = c.in_ok-push_unknown.ensures in
     record {
       kept = kept ∙ c.texts.invariant.kept;
-      goes = all_step (AreUnknownControls (terminal_held c.args.terminal.now)) unknown_held c.args.texts.now c.texts.text-index no_unknown c.args.self.now.remarks c.texts.self.remarks c.push_unknown.new.self.remarks
+      goes = all_step (AreUnknownControls c.args.terminal.now.untrusted) unknown_held c.args.texts.now c.texts.text-index no_unknown c.args.self.now.remarks c.texts.self.remarks c.push_unknown.new.self.remarks
           c.texts-test.true c.texts.invariant.goes told;
     }
 
 pub returns : goal.returns
 returns g c = (
   c.texts.invariant.kept,
-  all_end (AreUnknownControls (terminal_held c.args.terminal.now)) unknown_held c.args.texts.now c.texts.text-index c.args.self.now.remarks c.texts.self.remarks c.texts-test.false c.texts.invariant.goes,
+  all_end (AreUnknownControls c.args.terminal.now.untrusted) unknown_held c.args.texts.now c.texts.text-index c.args.self.now.remarks c.texts.self.remarks c.texts-test.false c.texts.invariant.goes,
 )

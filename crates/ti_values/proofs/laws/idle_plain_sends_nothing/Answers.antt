@@ -1,5 +1,0 @@
-use Rattle.ti_values.proofs.IdleLemmas.{idle_plain_sends_nothing}
-use Rattle.ti_values.proofs.laws.idle_plain_sends_nothing.Goals as goal
-
-pub returns : goal.returns
-returns c = idle_plain_sends_nothing
