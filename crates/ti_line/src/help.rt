@@ -50,8 +50,8 @@ u8, which are patterns of input";
 pub(crate) const ALL: &str = "Report also findings that may be intended, such as two
 keys that send the same string";
 
-pub(crate) const UNTRUSTED: &str = "Also look at every arm of each string, as for an entry
-from a stranger";
+pub(crate) const UNTRUSTED: &str = "Report all that strings may do beside what is harmless,
+as for an entry from a stranger";
 
 pub(crate) const SUMMARY: &str = "Write what was looked at on standard error, as is done if
 that is a terminal";
