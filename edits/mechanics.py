@@ -4,7 +4,9 @@ Each changes a line or two: a call is left out, a constant, a word, a variant or
 is turned round, two arms or two calls are swapped, a value is none, or the function returns at once. A name has the function, the
 kind and the line within its body. Some do not compile, and count for nothing. A function of which few are made so has further ones: a
 loop ends at once, the last call is left out, made twice, or its result is another, the values of two fields are swapped, a byte, a
-length, a limit or a line of a text is another.
+length, a limit or a line of a text is another. One that has few of these too has the finest ones: a call is made twice, a word loses its
+last character, an arm has the result of the one beside it, a guard or the test of a loop is turned round, a field is another of its
+struct, and what typed.py makes by types.
 """
 
 import random
@@ -13,49 +15,28 @@ from collections.abc import Iterable
 from functools import lru_cache
 
 from bodies import HEADER, Edit, Function, function_at, lines_of
-from checks.crates import CRATES, folder_of
+from changes import finest_arms, finest_lines, further_ends, further_lines, wrong_lines
+from checks.crates import CRATES
 from judges import is_presented, presentation
 from schema import NO_ARMS, maker, opening_of
+from typed import other_arguments, other_results, parameters_of, returned_of, twins
 
-# So many wrong bodies a function has at most.
+# So many wrong bodies a function has, and more if few of them are of kinds that mostly compile.
 MOST_OF_A_FUNCTION = 4
 # One with fewer has further ones.
 LEAST_OF_A_FUNCTION = 3
 # Of these kinds many do not compile, so they come after the others.
-LATER = {"arms", "none", "limit"}
-CALL = re.compile(r"^ *[\w.:]+\(.*\)\??;$")
-NUMBER = re.compile(r"(?<![\w.\"'#])(\d+)(?![\w.\"'])")
-WORD = re.compile(r"\"(?:[^\"\\]|\\.)*\"")
-# A variant without a value.
-VARIANT = re.compile(r"\b([A-Z]\w+)::([A-Z]\w+)\b(?![({:<]| \{)")
-SOME = re.compile(r"\bSome\((?:[^()]|\([^()]*\))*\)")
-ASKED = re.compile(r"(?<![\w.!])((?:\w+\.)*(?:is|has|are|may|starts|ends)_\w+\()")
-SLICE = re.compile(r"\[(\w+)\.\.\]|\[\.\.(\w+)\]")
-ARM = re.compile(r"^( *)([^=]\S.*?) => ([^{].*),$")
-TEST = re.compile(r"\bif (?!let\b)(.*) \{$")
-COMPARED = {" == ": " != ", " != ": " == ", " < ": " <= ", " <= ": " < ", " > ": " >= ", " >= ": " > "}
-LOGIC = {" && ": " || ", " || ": " && ", "true": "false", "false": "true", "if !": "if "}
-BOUNDS = {" + 1": " + 2", " - 1": "", "0..": "1..", "..=": "..", "saturating_sub(": "saturating_add("}
+LATER = {"arms", "none", "limit", "fields", "beside", "one", "pattern", "twins"}
 # What a function may return at once, by its type.
 RETURNED = [
     (r"-> bool", "true"), (r"-> bool", "false"), (r"-> Result<\(\),", "Ok(())"), (r"-> Result<bool,", "Ok(false)"), (r"-> Result<Option<", "Ok(None)"),
     (r"-> Option<", "None"), (r"-> (?:usize|u8|u16|u32|u64|u128|i32)$", "0"), (r"-> &(?:'\w+ )?str", '""'), (r"-> &(?:'\w+ )?\[u8\]", 'b""'),
     (r"-> Result<Vec<u8, A>,", "Ok(Vec::new(alloc))"),
 ]
-LOOP = re.compile(r"^ *(?:'\w+: )?(?:for|while|loop)\b.* \{(\})?$")
-BYTE = re.compile(r"b'([!-&(-\[\]-}])'")
-LIMIT = re.compile(r"(?<![\w:'\"])[A-Z][A-Z0-9_]{3,}\b(?!::|\()")
-FIELD = re.compile(r"^( *\w+: )(.*),$")
-LENGTHS = {".min(": ".max(", ".max(": ".min(", ".len())": ".len() + 1)", ".len(),": ".len() + 1,", ".first()": ".last()", ".last()": ".first()"}
 FURTHER_RETURNED = [
     (r"-> (?:usize|u8|u16|u32|u64|u128|i32)$", "1"), (r"-> &(?:'\w+ )?str", '"~"'), (r"-> &(?:'\w+ )?\[u8\]", 'b"~"'),
     (r"-> &(?:'\w+ )?\[(?!u8)", "&[]"), (r"-> Option<usize>", "Some(0)"), (r"-> Option<&(?:'\w+ )?str>", 'Some("~")'),
     (r"-> Result<usize,", "Ok(0)"), (r"-> Result<\(usize, u128\),", "Ok((0, 0))"), (r"\bself\b.*-> Self$", "self"),
-]
-# What the last expression of a function may be in place of what it is, by the function's type.
-ENDS = [
-    (r"-> bool$", "!({0})"), (r"-> (?:usize|u8|u16|u32|u64|u128|i32)$", "({0}) + 1"), (r"-> Result<\(\),", "Ok(())"), (r"-> Result<\(\),", "{0}?; {0}"),
-    (r"-> Option<", "{0}.and(None)"), (r"^(?!.*->)", ""), (r"^(?!.*->)", "{0}; {0}"),
 ]
 
 
@@ -88,91 +69,6 @@ def functions_of_presentation() -> Iterable[tuple[str, Function]]:
                     yield crate, function
 
 
-def changed(line: str, pairs: dict[str, str]) -> Iterable[str]:
-    """A line with one of its places changed, for each that is there."""
-    for old, new in pairs.items():
-        for found in re.finditer(re.escape(old), line):
-            yield line[: found.start()] + new + line[found.end() :]
-
-
-@lru_cache(None)
-def variants_of(crate: str) -> dict[str, list[str]]:
-    """The variants without a value that the sources of a crate name, by their type."""
-    found: dict[str, set[str]] = {}
-    for path in sorted((folder_of(crate) / "src").rglob("*.rt")):
-        for name, variant in VARIANT.findall(path.read_text(encoding="utf-8")):
-            found.setdefault(name, set()).add(variant)
-    return {name: sorted(variants) for name, variants in found.items()}
-
-
-def other_variant(crate: str, name: str, variant: str) -> str | None:
-    """The variant after another, of the same type."""
-    every = variants_of(crate).get(name, [])
-    if variant not in every or len(every) < 2:
-        return None
-    return every[(every.index(variant) + 1) % len(every)]
-
-
-def wrong_lines(crate: str, line: str, following: str) -> Iterable[tuple[str, list[str]]]:
-    """The wrong lines in place of one, or of it and the one after it, by kind."""
-    result = line.partition(" => ")[2] or line
-    for found in VARIANT.finditer(line, len(line) - len(result)):
-        if other := other_variant(crate, found[1], found[2]):
-            yield "variant", [line[: found.start(2)] + other + line[found.end(2) :]]
-    for found in SOME.finditer(line, len(line) - len(result)):
-        if "let " not in line:
-            yield "none", [f"{line[: found.start()]}None{line[found.end() :]}"]
-    for found in ASKED.finditer(line):
-        yield "test", [f"{line[: found.start()]}!{line[found.start() :]}"]
-    for found in SLICE.finditer(line):
-        new = f"[{found[1]} + 1..]" if found[1] else f"[..{found[2]} - 1]"
-        yield "bound", [line[: found.start()] + new + line[found.end() :]]
-    if CALL.match(line):
-        yield "call", [""]
-    for found in NUMBER.finditer(line):
-        yield "constant", [line[: found.start()] + str(int(found[1]) + 1) + line[found.end() :]]
-    for found in WORD.finditer(line):
-        if len(found[0]) > 2 and found[0][1] not in "\\{":
-            yield "word", [f'{line[: found.start()]}"~{found[0][2:]}{line[found.end() :]}']
-    for kind, pairs in [("comparison", COMPARED), ("logic", LOGIC), ("bound", BOUNDS)]:
-        for new in changed(line, pairs):
-            yield kind, [new]
-    if tested := TEST.search(line):
-        yield "test", [f"{line[: tested.start(1)]}!({tested[1]}) {{"]
-    if CALL.match(line) and CALL.match(following):
-        yield "order", [following, line]
-    first, second = ARM.match(line), ARM.match(following)
-    if first and second and first[1] == second[1] and first[3] != second[3]:
-        yield "arms", [f"{first[1]}{first[2]} => {second[3]},", f"{first[1]}{second[2]} => {first[3]},"]
-
-
-def further_lines(line: str, following: str) -> Iterable[tuple[str, list[str]]]:
-    """Further wrong lines, by kind."""
-    if ends := LOOP.match(line):
-        yield "loop", [f"{line[:-1]} break; }}" if ends[1] else f"{line} break;"]
-    for found in BYTE.finditer(line):
-        yield "byte", [f"{line[: found.start(1)]}{chr(ord(found[1]) ^ 1)}{line[found.end(1) :]}"]
-    for new in changed(line, LENGTHS):
-        yield "length", [new]
-    for found in LIMIT.finditer(line):
-        yield "limit", [f"{line[: found.start()]}({found[0]} + 1){line[found.end() :]}"]
-    first, second = FIELD.match(line), FIELD.match(following)
-    if first and second and first[2] != second[2]:
-        yield "fields", [f"{first[1]}{second[2]},", f"{second[1]}{first[2]},"]
-    # A line of a text of several lines.
-    if re.match(r" {0,2}\w", line):
-        yield "text", [re.sub(r"\w", "~", line, count=1)]
-
-
-def further_ends(header: str, line: str) -> Iterable[tuple[str, list[str]]]:
-    """What the last line of a function may be in place of what it is, if it is a whole expression."""
-    is_whole = re.fullmatch(r" {4,8}(?:[\w&!*].*[\w)?\]])", line) and "{" not in line and line.count("(") == line.count(")")
-    if is_whole and line.strip() not in ("Ok(())", "None"):
-        for pattern, value in ENDS:
-            if re.search(pattern, header):
-                yield "end", [f"    {value.format(line.strip())}"]
-
-
 def further_wrong(crate: str, function: Function) -> list[tuple[str, dict[tuple[str, int], str]]]:
     """Further mechanical wrong bodies of a function."""
     lines, places = lines_of(crate, function.file), places_of(crate, function)
@@ -185,6 +81,35 @@ def further_wrong(crate: str, function: Function) -> list[tuple[str, dict[tuple[
         for kind, new in [*news, *(further_ends(header, lines[at]) if at + 1 == function.last else [])]:
             found.append((kind, {(function.file, at + step): line for step, line in enumerate(new)}))
     return found
+
+
+def finest_wrong(crate: str, function: Function) -> list[tuple[str, dict[tuple[str, int], str]]]:
+    """The finest mechanical wrong bodies of a function."""
+    lines, places = lines_of(crate, function.file), places_of(crate, function)
+    head, header = head_of(crate, function)
+    place, parameters, kind = (crate, function.file), parameters_of(head), re.sub(r"\bSelf\b", function.path[-2], header.partition("-> ")[2])
+    found: list[tuple[str, dict[tuple[str, int], str]]] = []
+    for value in returned_of(kind, parameters) if places else []:
+        found.append(("return", {(function.file, places[0]): f"{value} {lines[places[0]].strip()}"}))
+    for at in places:
+        following = lines[at + 1] if at + 1 in places else ""
+        opener = next(line for line in reversed(lines[:at]) if line.strip() and indent_of(line) < indent_of(lines[at]))
+        news = [*finest_lines(place, lines[at], following), *finest_arms(crate, header, lines[at], following)]
+        is_of_struct = opener.endswith("{")
+        news += [("argument", [new]) for new in other_arguments(place, lines[at], is_of_struct, parameters)]
+        news += [("twins", new) for new in twins(lines[at], following, is_of_struct)]
+        for kind_of, new in news:
+            found.append((kind_of, {(function.file, at + step): line for step, line in enumerate(new) if line != lines[at + step]}))
+    last = function.last - 1
+    for value in other_results(place, kind):
+        ends = {(function.file, last): f"{lines[last]} }}; {value}"}
+        first = ends.get((function.file, places[0]), lines[places[0]])
+        found.append(("made", {**ends, (function.file, places[0]): f"    let mut made = {{ {first.strip()}"}))
+    return found
+
+
+def indent_of(line: str) -> int:
+    return len(line) - len(line.lstrip())
 
 
 def returns_of(header: str, has_alloc: bool, known: list[tuple[str, str]]) -> Iterable[str]:
@@ -230,8 +155,9 @@ def all_wrong(crate: str, function: Function) -> list[tuple[str, dict[tuple[str,
 def drawn_of(crate: str, function: Function) -> list[tuple[str, dict[tuple[str, int], str]]]:
     """A few of the wrong bodies of a function, of as many kinds as may be, the same in each run."""
     every = all_wrong(crate, function)
-    if len(every) < LEAST_OF_A_FUNCTION:
-        every += further_wrong(crate, function)
+    for more in (further_wrong, finest_wrong):
+        if sum(kind not in LATER for kind, _ in every) < LEAST_OF_A_FUNCTION:
+            every += more(crate, function)
     random.Random(f"{crate}::{function.name}").shuffle(every)
     ranks: dict[str, int] = {}
     order = []
@@ -239,7 +165,9 @@ def drawn_of(crate: str, function: Function) -> list[tuple[str, dict[tuple[str, 
         ranks[one[0]] = ranks.get(one[0], 1 if one[0] in LATER else -1) + 1
         order.append((ranks[one[0]], one))
     order.sort(key=lambda pair: pair[0])
-    return [one for _, one in order[:MOST_OF_A_FUNCTION]]
+    chosen, left = ([one for _, one in part] for part in (order[:MOST_OF_A_FUNCTION], order[MOST_OF_A_FUNCTION:]))
+    lacking = LEAST_OF_A_FUNCTION - sum(kind not in LATER for kind, _ in chosen)
+    return chosen + [one for one in left if one[0] not in LATER][: max(lacking, 0)]
 
 
 def mechanical_edits() -> list[Edit]:
