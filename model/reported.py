@@ -52,8 +52,9 @@ def as_it_stands(text: bytes) -> bytes:
 
 def sendings(name: str, kind: str, text: bytes, fsl: bytes | None) -> list[bytes]:
     """The capabilities by which a string is sent."""
-    if name in JOINED and fsl is not None and b"%" not in fsl and (b"%" not in text or kind == "parameterized" and is_capability(text)):
-        return [text + b"%p9%s" + fsl]
+    if name in JOINED and fsl is not None:
+        whole = (text if kind == "parameterized" else as_it_stands(text)) + b"%p9%s" + as_it_stands(fsl)
+        return [whole if is_capability(whole) else as_it_stands(whole)]
     stands = [as_it_stands(text)]
     if kind == "plain" or not is_capability(text):
         return stands
