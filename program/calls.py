@@ -45,6 +45,8 @@ ODD = [
     "n:99999999999", "s:x", "-5", "5", "red", "\x1b[2J", "--\x1bx", "é", "--rate", "--rate=", "--entry", "--of", "--color", "#10", "text#10",
     "flag#1", "number#0", "cursor_address", "kcuu", "$(ti-path)", "help", "show", "lnit", "--all", "--expand", "--wide", "--narrow", "--force",
 ]
+# What is no compiled entry, though it may be taken for one.
+NO_ENTRIES = [b"", b"\x1f\x8b\x08\0", b"\x7fELF\x02", b"<html>", b"xterm|x,\n\tam,\n"]
 COMMON = ["cup", "clear", "bold", "sgr0", "home", "el", "ed", "cuf", "cub1", "ind", "setaf", "sgr", "csr", "rep", "flash", "cols", "am", "kbs"]
 MORE_NAMES = ["cursor_address", "text#10", "flag#1", "number#0", "#14", "kcuu1", "u6", "acsc", "max_colors", "kcuu", "XT", "RGB", "colors"]
 
@@ -116,7 +118,9 @@ def broken(entry: bytes) -> bytes:
 
 
 def any_entry() -> bytes:
-    """An entry of this machine or a made one, mostly broken, or a hostile one."""
+    """An entry of this machine or a made one, mostly broken, or a hostile one; now and then what is no entry."""
+    if random.random() < 0.02:
+        return choose(NO_ENTRIES)
     one = an_entry(made(), ENTRIES) if random.random() < 0.8 else choose(hostile())
     return broken(one) if random.random() < 0.3 else one
 
@@ -160,21 +164,21 @@ def given() -> list[str]:
     return [choose([word, word.partition(":")[2]]) for word in parameters(made())] if random.random() < 0.5 else choose([[], ["4"], ["4", "9"], ["1", "0", "1"]])
 
 
-def words_for(command: str) -> list[str]:
+def words_for(command: str, named: str) -> list[str]:
     """The words of a call for an entry, before its file."""
     words = [command, *options_of(command)]
     if command == "get":
-        words += ["--", name(), *given()]
+        words += ["--", named, *given()]
     elif command == "expand":
-        words += ["--", name(), *parameters(made())]
+        words += ["--", named, *parameters(made())]
     elif command == "trace":
-        words += ["--of", name(), "--", *given()]
+        words += ["--of", named, "--", *given()]
     return words
 
 
-def with_entry(command: str, entry: bytes) -> Call:
-    """A call of a command on an entry: a file, one behind --entry, or standard input."""
-    words, call = words_for(command), Call([], data=entry, source=choose(["file", "pipe"]))
+def with_entry(command: str, entry: bytes, named: str = "") -> Call:
+    """A call of a command on an entry: a file, one behind --entry, or standard input. What is named in it may be chosen."""
+    words, call = words_for(command, named or name()), Call([], data=entry, source=choose(["file", "pipe"]))
     way = random.random()
     if command == "diff":
         call.files = {"b": any_entry()} if random.random() < 0.7 else {"b": broken(entry)}
@@ -201,7 +205,32 @@ def of_installed(place: int) -> Call:
 
 def of_made(_: int) -> Call:
     """An entry that is made, broken or hostile."""
+    if random.random() < 0.15:
+        return of_named()
     return with_entry(choose(OF_ENTRIES), any_entry())
+
+
+def of_named() -> Call:
+    """A string of an entry that has it, or a number that may be too large for the format, or a delay with more pad bytes than there may be."""
+    entries, command = made().entries, choose(["get", "expand", "trace", "slow", "convert"])
+    if command == "convert":
+        entry = entries.Entry(entries.WIDE, b"t", extended_numbers=[(b"A", choose([32767, 32768, 70000]))])
+        call, more = with_entry("convert", entries.encode(entry, entries.WIDE)), [b"--narrow"]
+    else:
+        text = b"$<99999*>" if command == "slow" else a_capability(made()).replace(b"\0", b"")
+        entry = entries.Entry(entries.LEGACY, b"t", extended_texts=[(b"Ss", text)])
+        data, more = entries.encode(entry, entries.LEGACY), []
+        if command == "slow":
+            command, more = choose(["get", "expand"]), [b"--rate=1000000", b"--lines=65535"]
+        call = with_entry(command, data, "Ss")
+    call.words[1:1] = more
+    return call
+
+
+def in_notation(text: bytes) -> bytes:
+    """A capability in the notation, now and then with a fault at its end or a name before it."""
+    found = b"".join(bytes([byte]) if 32 < byte < 127 and byte not in b"\\^" else b"\\%03o" % byte for byte in text)
+    return choose([found, found, found, found + b"\\", found + b"^", found + b"^\xc8", b"cup=" + found, b"cup#" + found])
 
 
 def of_string(_: int) -> Call:
@@ -209,6 +238,8 @@ def of_string(_: int) -> Call:
     command = choose(["cap", "trace"])
     text = a_capability(made())
     words = [command, *options_of(command), "--", *parameters(made())]
+    if "--source" in words and random.random() < 0.8:
+        text = in_notation(text)
     at_terminal = random.random() < 0.1
     if at_terminal:
         text = b"".join(bytes([byte]) for byte in text[:200] if 32 <= byte < 127) + b"\n"
@@ -222,8 +253,9 @@ def of_words(_: int) -> Call:
         words += options_of(words[0], 0.1)
     for _ in range(choose([0, 1, 1, 2, 3])):
         words.insert(random.randint(0, len(words)), choose(ODD))
-    if random.random() < 0.15:
-        words = ["lint", "--explain", *(choose([*findings(), "nosuch"]) for _ in range(choose([0, 1, 1, 2])))]
+    if random.random() < 0.3:
+        explained, other = random.sample(findings(), choose([0, 1, 2, 12])), choose(["", "", "", "nosuch"])
+        words = ["lint", "--explain", *explained, *([other] if other else [])]
     told = [word.encode() for word in words]
     if random.random() < 0.03:
         told.append(b"\xff")
@@ -252,10 +284,10 @@ def of_several(_: int) -> Call:
 
 
 def of_folder(_: int) -> Call:
-    """A folder, beside a file of it or alone."""
+    """A folder, beside a file of it or alone. It may be empty, or not there."""
     command = choose(["show", "check", "lint", "lint", "convert", "diff"])
     names = ["d/b", "d/x/c", "d/x/a", "d/.h", "d/é"]
-    files = {one: any_entry() for one in random.sample(names, random.randint(1, 4))}
+    files = {one: any_entry() for one in random.sample(names, random.randint(0, 4))}
     words = [command, *options_of(command), *choose([["d"], ["d/x", "d"], ["d", "missing"], ["d", "d"], ["-", "d"], ["d/"], ["."]])]
     return Call([word.encode() for word in words], files=files, data=choose([b"", any_entry()]))
 
@@ -301,6 +333,9 @@ def made_call(number: int, seed: str) -> Call:
     call = kind(place)
     if call.output == "file" and not call.kilobytes and not call.apart:
         call.output = choose(["file"] * 6 + ["pipe"] * 2 + ["terminal"])
+    if call.lines == "file" and not call.kilobytes and not call.apart and random.random() < 0.3:
+        # There lines on faults have advice.
+        call.lines = "terminal"
     if "terminal" in (call.output, call.lines) or random.random() < 0.05:
         call.variables = choose([{"TERM": "xterm"}] * 3 + [{"TERM": "xterm", "NO_COLOR": "1"}, {"TERM": "dumb"}, {}])
     return call
