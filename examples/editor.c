@@ -20,7 +20,7 @@ static int fail(int status, const char *what, const char *why) {
     return status;
 }
 
-/* Sends a text of the entry by its name, with two numbers; nothing if the terminal lacks it. */
+/* Sends a string of the entry by its name, with two numbers; nothing if the terminal lacks it. */
 static void send_text(const char *name, int first, int second) {
     ti_parameter numbers[2];
     ti_value value;
@@ -60,7 +60,7 @@ int main(int argc, char **argv) {
     send_text("smcup", 0, 0);
     send_text("clear", 0, 0);
     write_line(1, 2, "A green line,");
-    send_text("Smulx", 3, 0); /* an extended name: a curly line below, where the entry has it */
+    send_text("Smulx", 3, 0); /* a user-defined name: a curly line below, if the entry has it */
     write_line(2, 1, "a red one, and Enter ends it.");
     send_text("sgr0", 0, 0);
     fflush(stdout);

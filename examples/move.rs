@@ -13,7 +13,7 @@ fn main() -> Result<(), Box<dyn Error>> {
     let file = fs::read(path)?;
     let entry = Entry::read(&file)?;
     let Some(Item::Text(cup)) = entry.find("cup") else {
-        return Err("cup is no text".into());
+        return Err("cup is no string".into());
     };
     let cup = Capability::parse(cup.value().ok_or("this terminal cannot move its cursor")?)?;
     let output = expand(&cup, &[row.parse::<i32>()?.into(), column.parse::<i32>()?.into()], &mut Vars::new())?;

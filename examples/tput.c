@@ -1,6 +1,6 @@
-/* Writes what a text of an entry sends, as tput does: tput ENTRY-FILE NAME [PARAM..]
- * A parameter that the capability takes as a text is one, and another has to be a decimal number of 32 bits. The status is 2 for a
- * wrong call, 3 if the file can't be read or the output can't be written, and 4 if the entry, its text or the parameters are refused.
+/* Writes what a string of an entry sends, as tput does: tput ENTRY-FILE NAME [PARAM..]
+ * A parameter that the capability takes as a string is one, and another has to be a decimal number of 32 bits. The status is 2 for a
+ * wrong call, 3 if the file can't be read or the output can't be written, and 4 if the entry, its string or the parameters are refused.
  *
  *     cc -o tput tput.c $(pkg-config --cflags --libs ti)
  */

@@ -1,8 +1,8 @@
 #!/usr/bin/env python3
-"""Writes what a text of an entry sends, as tput does: tput.py ENTRY-FILE NAME [PARAM..]
+"""Writes what a string of an entry sends, as tput does: tput.py ENTRY-FILE NAME [PARAM..]
 
-A parameter that the capability takes as a text is one, and another has to be a decimal number of 32 bits. The status is 2 for a
-wrong call, 3 for a file that can't be read, and 4 if the entry, its text or the parameters are refused.
+A parameter that the capability takes as a string is one, and another has to be a decimal number of 32 bits. The status is 2 for a
+wrong call, 3 for a file that can't be read, and 4 if the entry, its string or the parameters are refused.
 """
 import re
 import sys

@@ -1,5 +1,5 @@
-//! Writes what a text of an entry sends, as tput does: tput ENTRY-FILE NAME [PARAM..]
-//! A parameter that is a decimal number is one, any other is a text.
+//! Writes what a string of an entry sends, as tput does: tput ENTRY-FILE NAME [PARAM..]
+//! A parameter that is a decimal number is one, any other is a string.
 
 use std::error::Error;
 use std::io::{self, ErrorKind, Write};
@@ -7,10 +7,10 @@ use std::process::ExitCode;
 use std::{env, fs};
 use ti_terminfo::{Capability, Entry, Item, Padding, Value, Vars, expand, pad};
 
-/// What the text with a name sends for these parameters, without its padding marks.
+/// What the string with a name sends for these parameters, without its delays.
 fn sent(file: &[u8], name: &str, words: &[String]) -> Result<Vec<u8>, Box<dyn Error>> {
     let text = match Entry::read(file)?.find(name) {
-        Some(Item::Text(text)) => text.value().ok_or("this terminal has no such text")?,
+        Some(Item::Text(text)) => text.value().ok_or("this terminal has no such string")?,
         Some(_) => return Err("this is a flag or a number".into()),
         None => return Err("no capability has this name".into()),
     };
