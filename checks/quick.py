@@ -27,8 +27,8 @@ from checks.machine import DIST, PROVED_ARCHIVE, PROVED_PROGRAM, ROOT, is_there,
 # The parts that test the built program and the library, those that take longest first.
 OF_PROGRAM = [
     "rust/check", "page/check", "dist/qemu", "completions/check", "model/compare 500", "docs/commands", "c/installed", "c/check",
-    "c/package", "model/names", "model/terminals", "model/paths", "model/allowed", "model/judged", "model/harmless", "model/tic", "model/tput", "model/upstream", "dist/check", "python/check",
-    "c/header", "program/check", "program/paths", "program/hostile", "program/tasks", "program/remedies", "program/sources", "program/rows", "program/memory",
+    "c/package", "checks/license", "model/names", "model/terminals", "model/paths", "model/allowed", "model/judged", "model/harmless", "model/tic", "model/tput", "model/upstream", "dist/check", "python/check",
+    "c/header", "program/check", "checks/stable", "program/paths", "program/hostile", "program/tasks", "program/remedies", "program/sources", "program/rows", "program/memory",
     "clients/run", "compat/check", "program/oracle",
 ]
 WHOLE = "./gate is the whole test"
