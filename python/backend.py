@@ -72,6 +72,8 @@ def members(library: Path, machine: str) -> dict[str, bytes]:
     files = {name: (HERE / name).read_bytes() for name in MODULES + (OVER_COMPILED if is_compiled else OVER_LIBRARY)}
     files[f"mogyarsu/{COMPILED if is_compiled else library_name()}"] = library.read_bytes()
     description = files[MODULES[0]].decode("utf-8").split('"""')[1]
+    if (HERE.parent / "LICENSE").is_file():
+        files[f"{INFO}/LICENSE"] = (HERE.parent / "LICENSE").read_bytes()
     files[f"{INFO}/METADATA"] = (METADATA.format_map(PROJECT) + description).encode()
     files[f"{INFO}/WHEEL"] = f"Wheel-Version: 1.0\nGenerator: mogyarsu\nRoot-Is-Purelib: false\nTag: {tag_of(library)}{machine}\n".encode()
     return files
