@@ -1,4 +1,4 @@
-//! Worked rows of the notation, of padding, of the parser and of traces, in tables.
+//! Worked rows of the notation, of padding, of the parser, of sinks and of traces, in tables.
 
 use std::process::Abort;
 use ti_fixtures::{Finds, first_wrong};
@@ -42,5 +42,6 @@ mod padding_rows;
 mod padding_writers;
 mod parser;
 mod sent_names;
+mod sinks;
 mod traces;
 mod uses;

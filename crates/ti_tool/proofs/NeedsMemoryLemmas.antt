@@ -13,8 +13,7 @@ use Rattle.ti_cap.specs.Refusal.{IsFaultless, IsRefusal}
 use Rattle.ti_expand.specs.declared.values.Value.{Value}
 use Rattle.ti_expand.specs.Expands.{IsFirstTooLong}
 use Rattle.ti_line.specs.declared.options.TraceForm.{TraceForm}
-use Rattle.ti_trace.specs.declared.fault.TraceFault.{TraceFault}
-use Rattle.ti_trace.specs.declared.fault.TraceFault.TheVariants as trace_fault
+use Rattle.ti_trace.specs.Faults.{CanBeTraced}
 use Rattle.ti_pad.specs.Setting.{Setting}
 use Rattle.ti_pad.specs.Padded.{padded_text}
 use Rattle.ti_entry.proofs.SpellsAtMostOneLemmas.{at_most_one}
@@ -51,22 +50,13 @@ padded_needs text parameters setting output can (fault.TextTooLong k) d = absurd
 padded_needs text parameters setting output can (fault.Encode unfit) d = tt
 padded_needs text parameters setting output can other d = d
 
-pub traced_needs : (parameters : List Value) (form : TraceForm) (input : List ℕ) → IsExpandable input parameters → NeedsMemory (IsTraced parameters form input)
+traced_needs : (parameters : List Value) (form : TraceForm) (input : List ℕ) → IsExpandable input parameters → NeedsMemory (IsTraced parameters form input)
 traced_needs parameters form input can e d = absurd (can e d)
 
+pub traced_memory : (parameters : List Value) (form : TraceForm) (input : List ℕ) → CanBeTraced input parameters → NeedsMemory (IsTraced parameters form input)
+traced_memory parameters form input can = traced_needs parameters form input (expandable input parameters can.0 can.1)
+
 -- ---- what the parts of a call answer
-
--- no text is too long if a trace was out of memory
-pub none_too_long_traced : {V : Type 0} (r : Result V TraceFault) (input : List ℕ) (parameters : List Value) → IsFaultless input
-    → ((k : ℕ) → (r ≡ Err (trace_fault.TextTooLong k)) ↔ (IsFaultless input × IsFirstTooLong parameters k)) → r ≡ Err trace_fault.Memory
-    → (k : ℕ) → ¬ IsFirstTooLong parameters k
-none_too_long_traced r input parameters passed h e k first = absurd (cc (e, (h k).1 (passed, first)))
-
--- nor if it is there
-pub none_too_long_shown : {V : Type 0} (r : Result V TraceFault) (v : V) (input : List ℕ) (parameters : List Value) → IsFaultless input
-    → ((k : ℕ) → (r ≡ Err (trace_fault.TextTooLong k)) ↔ (IsFaultless input × IsFirstTooLong parameters k)) → r ≡ Ok v
-    → (k : ℕ) → ¬ IsFirstTooLong parameters k
-none_too_long_shown r v input parameters passed h is k first = absurd (cc (is, (h k).1 (passed, first)))
 
 -- out of memory is the one fault
 pub out_of_memory : {V : Type 0} (r : Result V ToolFault) (bytes_of : V → List ℕ) (due : Result (List ℕ) ToolFault → Type 0) → IsErrAnd r (λ e. e ≡ fault.Memory) → NeedsMemory due

@@ -25,7 +25,6 @@ use Rattle.ti_expand.specs.Meaning.{meaning}
 use Rattle.ti_expand.specs.Expands.{IsFirstTooLong}
 use Rattle.ti_escape.specs.declared.color.Color.{Color}
 use Rattle.ti_lint.specs.declared.lint_options.LintOptions.{LintOptions}
-use Rattle.ti_trace.proofs.OneTraceLemmas.{is_one_trace, is_one_trace_json}
 use Rattle.ti_pad.specs.Setting.{Setting}
 use Rattle.ti_pad.specs.Padded.{padded_text}
 use Rattle.ti_base.specs.Limits.{most_padded_bytes}
@@ -40,16 +39,14 @@ use Rattle.ti_line.specs.declared.request.EntryAction.{EntryAction}
 use Rattle.ti_line.specs.declared.request.EntryAction.TheVariants as of_entry
 use Rattle.ti_tool.specs.declared.fault.ToolFault.{ToolFault}
 use Rattle.ti_tool.specs.declared.fault.ToolFault.TheVariants as fault
-use Rattle.ti_tool.specs.Laws.{HasOneAnswer, IsOneOf}
+use Rattle.ti_tool.specs.Laws.{HasOneAnswer, IsOneOf, IsOneOutput}
 use Rattle.ti_line.specs.Options.{output_bytes}
 use Rattle.ti_line.specs.declared.options.Document.{Document}
 use Rattle.ti_line.specs.declared.options.Document.TheVariants as documents
 use Rattle.ti_tool.specs.Documents.{AreObjects, IsDocument}
 use Rattle.ti_tool.specs.Results.{IsExpansion, IsUnexpanded, IsCappedAs, IsPadded, IsDue, IsDueFor, IsDueFrom, IsDueIn, IsDueOf, IsEncoding, IsJudgement, IsLinted, IsOutputOf, in_width}
 use Rattle.ti_tool.specs.Sources.{IsDueForText, text_in_source}
-use Rattle.ti_line.specs.declared.options.TraceForm.{TraceForm}
-use Rattle.ti_line.specs.declared.options.TraceForm.TheVariants as trace_forms
-use Rattle.ti_tool.specs.Traces.{IsTraceAs, IsTraced, IsTracedBy, IsTracedOf, IsTracedValue, no_values}
+use Rattle.ti_tool.specs.Traces.{IsTracedValue}
 use Rattle.serde_json.specs.Data.{Data}
 use Rattle.ti_json.specs.Objects.{array_text, row_objects}
 use Rattle.ti_json.specs.Rows.{ContentValue, HasFault, HasLimits, RowValue}
@@ -61,7 +58,6 @@ use Rattle.ti_tool.proofs.UnfitLemmas.{fit_never, fit_once}
 use Rattle.ti_tool.specs.Verdicts.{AreRows, AreVerdictObjects, AreVerdicts, HasRows, IsJudged, are_sound, written}
 use Rattle.ti_line.specs.declared.given.Given.{Given}
 use Rattle.ti_line.specs.declared.request.Get.{Get}
-use Rattle.ti_line.specs.declared.request.TraceOf.{TraceOf}
 use Rattle.ti_tool.specs.Got.{IsDueBy, IsGot, IsPaddedAlone, IsTextResult, IsValueResult}
 use Rattle.ti_tool.specs.declared.item_name.Names.TheVariants.{Texts, All}
 use Rattle.ti_tool.proofs.IsDueLemmas.{IsNeverOwn, text_never, traced_never, value_never}
@@ -126,16 +122,6 @@ one_capped parameters output input (Ok a) (Ok b) (plain, passed, p, is) (other, 
 one_capped parameters output input (Ok a) (Err e) (plain, passed, p, is) d = absurd (expandable input parameters passed p.short e d)
 one_capped parameters output input (Err e) (Ok b) d (plain, passed, p, is) = absurd (expandable input parameters passed p.short e d)
 one_capped parameters output input (Err e) (Err f) d h = ap Err (one_unexpanded input parameters e f d h)
-
-one_trace : (form : TraceForm) (input : List ℕ) (parameters : List Value) (a b : List ℕ) → IsTraceAs form input parameters a → IsTraceAs form input parameters b → a ≡ b
-one_trace (trace_forms.Lines options) input parameters a b is same = is_one_trace input parameters options a b is same
-one_trace trace_forms.Json input parameters a b (text, is, e) (other, same, f) = e ∙ ap (λ t. t ++ codes "\n") (is_one_trace_json input parameters text other is same) ∙ sym f
-
-one_traced : (parameters : List Value) (form : TraceForm) (input : List ℕ) → IsOneResult (IsTraced parameters form input)
-one_traced parameters form input (Ok a) (Ok b) (passed, short, is) (again, low, same) = ap Ok (one_trace form input parameters a b is same)
-one_traced parameters form input (Ok a) (Err e) (passed, short, is) d = absurd (expandable input parameters passed short e d)
-one_traced parameters form input (Err e) (Ok b) d (passed, short, is) = absurd (expandable input parameters passed short e d)
-one_traced parameters form input (Err e) (Err f) d h = ap Err (one_unexpanded input parameters e f d h)
 
 -- ---- padded texts
 
@@ -291,26 +277,6 @@ one_got g set as_set v r s (item, called, d) (other, again, h) =
     fit_once g.name.now g.given item (IsValueResult item g set) (IsValueResult item g as_set) (one_value item g set as_set) r s d
     (subst (λ i. IsDueIfFit g.name.now g.given i (IsValueResult i g as_set) s) (one_item All v g.name.now other item again called) h)
 
--- ---- traces of capabilities
-
-one_traced_by : (text : List ℕ) (given : Option Given) (form : TraceForm) → IsOneResult (IsTracedBy text given form)
-one_traced_by text None form r s d h = one_traced no_values form text r s d h
-one_traced_by text (Some given) form r s d h =
-    one_by text given (λ parameters. IsTraced parameters form text) (λ parameters. one_traced parameters form text) r s d h
-
-one_traced_value : (item : Option ItemValue) (t : TraceOf) → IsOneResult (IsTracedValue item t)
-one_traced_value None t r s d h = d ∙ sym h
-one_traced_value (Some (FlagItem flag)) t r s d h = d ∙ sym h
-one_traced_value (Some (NumberItem number)) t r s d h = d ∙ sym h
-one_traced_value (Some (TextItem AbsentText)) t r s d h = d ∙ sym h
-one_traced_value (Some (TextItem CancelledText)) t r s d h = d ∙ sym h
-one_traced_value (Some (TextItem (TextOf text))) t r s d h = one_traced_by text t.given t.form r s d h
-
-one_traced_of : (t : TraceOf) (v : EntryValue) → IsOneResult (IsTracedOf t v)
-one_traced_of t v r s (item, called, d) (other, again, h) =
-    fit_once t.name.now t.given item (IsTracedValue item t) (IsTracedValue item t) (one_traced_value item t) r s d
-    (subst (λ i. IsDueIfFit t.name.now t.given i (IsTracedValue i t) s) (one_item All v t.name.now other item again called) h)
-
 -- ---- documents
 
 one_list : (document : Document) (passed as_passed : Bool) (input : List ℕ) (v : EntryValue) (objects others : List Data)
@@ -332,13 +298,13 @@ document_never document passed input v = record { no_write = λ gone d. d; no_me
 
 -- ---- requests
 
-one_output : (c : CapabilityResult) (parameters : List Value) (input : List ℕ) → IsOneResult (IsOutputOf c parameters input)
-one_output (of_cap.Cap output) parameters input = one_capped parameters output input
-one_output (of_cap.Trace form) parameters input = one_traced parameters form input
+one_output : (c : CapabilityResult) (parameters : List Value) (input : List ℕ) → IsOneOutput c → IsOneResult (IsOutputOf c parameters input)
+one_output (of_cap.Cap output) parameters input certain = one_capped parameters output input
+one_output (of_cap.Trace form) parameters input certain = absurd certain
 
-one_for_text : (c : CapabilityResult) (parameters : List Value) (text : Result (List ℕ) ToolFault) → IsOneResult (IsDueForText (IsOutputOf c parameters) text)
-one_for_text c parameters (Ok text) = one_output c parameters text
-one_for_text c parameters (Err e) = λ r s d h. d ∙ sym h
+one_for_text : (c : CapabilityResult) (parameters : List Value) (text : Result (List ℕ) ToolFault) → IsOneOutput c → IsOneResult (IsDueForText (IsOutputOf c parameters) text)
+one_for_text c parameters (Ok text) certain = one_output c parameters text certain
+one_for_text c parameters (Err e) certain = λ r s d h. d ∙ sym h
 
 one_on : (before : List ℕ) (e : EntryAction) (passed as_passed : Bool) (input : List ℕ) (v : EntryValue) (r s : Result (List ℕ) ToolFault)
     → IsOneOf e → IsDueIn before e passed input v r → IsDueIn before e as_passed input v s → r ≡ s
@@ -348,7 +314,7 @@ one_on before (of_entry.Check which naming) passed as_passed input v r s certain
 one_on before (of_entry.Lint options color) passed as_passed input v r s certain d h = absurd certain
 one_on before (of_entry.Expand e) passed as_passed input v r s certain d h = one_due_for e.name.names e.name.name.now e.parameters.values e.padding e.output v r s d h
 one_on before (of_entry.Get g) passed as_passed input v r s certain d h = one_got g passed as_passed v r s d h
-one_on before (of_entry.Trace t) passed as_passed input v r s certain d h = one_traced_of t v r s d h
+one_on before (of_entry.Trace t) passed as_passed input v r s certain d h = absurd certain
 one_on before (of_entry.Convert width) passed as_passed input v r s certain d h = one_encoding (in_width width v) r s d h
 
 pub one_of : (before : List ℕ) (e : EntryAction) (passed as_passed : Bool) (input : List ℕ) (r s : Result (List ℕ) ToolFault)
@@ -357,8 +323,8 @@ one_of before e passed as_passed input r s certain d h =
     one_from input (IsDueIn before e passed input) (IsDueIn before e as_passed input) (λ v p q a b. one_on before e passed as_passed input v p q certain a b) r s d h
 
 pub one_answer : HasOneAnswer
-one_answer (Capability c) input passed as_passed r s certain d h = one_output c.result c.parameters.values input r s d h
-one_answer (Source c) input passed as_passed r s certain d h = one_for_text c.result c.parameters.values (text_in_source input) r s d h
+one_answer (Capability c) input passed as_passed r s certain d h = one_output c.result c.parameters.values input certain r s d h
+one_answer (Source c) input passed as_passed r s certain d h = one_for_text c.result c.parameters.values (text_in_source input) certain r s d h
 one_answer (Difference e) input passed as_passed r s certain d h = elim d [ ]
 one_answer (Entry e) input passed as_passed r s certain d h = one_of [] e passed as_passed input r s certain d h
 

@@ -8,7 +8,9 @@ use Rattle.ti_line.specs.declared.options.Comparison.{Comparison}
 use Rattle.ti_line.specs.declared.options.Likeness.{Likeness}
 use Rattle.ti_line.specs.declared.request.Action.{Action}
 use Rattle.ti_line.specs.declared.options.Document.TheVariants as documents
-use Rattle.ti_line.specs.declared.request.Action.TheVariants.{Entry}
+use Rattle.ti_line.specs.declared.request.Action.TheVariants.{Capability, Difference, Entry, Source}
+use Rattle.ti_line.specs.declared.request.CapabilityResult.{CapabilityResult}
+use Rattle.ti_line.specs.declared.request.CapabilityResult.TheVariants as of_cap
 use Rattle.ti_line.specs.declared.request.EntryAction.{EntryAction}
 use Rattle.ti_line.specs.declared.request.EntryAction.TheVariants as of_entry
 use Rattle.ti_tool.specs.declared.fault.ToolFault.{ToolFault}
@@ -32,11 +34,19 @@ WideAndBack = (input wide back : List ℕ) (v : EntryValue) → Spells input v �
 abbrev pub IsOneOf : EntryAction → Type 0
 IsOneOf (of_entry.Lint options color) = ⊥
 IsOneOf (of_entry.Json (documents.Findings options)) = ⊥
+IsOneOf (of_entry.Trace t) = ⊥
 IsOneOf action = Unit {0}
 
+-- what a trace says is shown by rows
+abbrev pub IsOneOutput : CapabilityResult → Type 0
+IsOneOutput (of_cap.Cap output) = Unit {0}
+IsOneOutput (of_cap.Trace form) = ⊥
+
 abbrev pub IsOneFor : Action → Type 0
+IsOneFor (Capability c) = IsOneOutput c.result
+IsOneFor (Source c) = IsOneOutput c.result
 IsOneFor (Entry e) = IsOneOf e
-IsOneFor action = Unit {0}
+IsOneFor (Difference d) = Unit {0}
 
 -- at most one result or fault is due for an action and the bytes that are read
 abbrev pub HasOneAnswer : Type 0

@@ -1,5 +1,6 @@
 -- What `trace` makes of a capability, and of one of an entry.
-use Rattle.std.specs.Prelude.{◌≡◌, ◌++◌, ℕ, List, codes, Option, Some, None, Result, Ok, Err, pos, replicate}
+use Rattle.std.specs.List.{list_all}
+use Rattle.std.specs.Prelude.{◌≡◌, ◌++◌, ℕ, true, List, codes, Option, Some, None, Result, Ok, Err, pos, replicate}
 use Rattle.ti_words.specs.Items.{ItemValue, TextItem}
 use Rattle.ti_words.specs.Texts.{TextOf}
 use Rattle.ti_words.specs.Value.{EntryValue}
@@ -7,8 +8,8 @@ use Rattle.ti_cap.specs.Refusal.{IsFaultless}
 use Rattle.ti_expand.specs.declared.values.Value.{Value}
 use Rattle.ti_expand.specs.declared.values.Value.TheVariants.{Num}
 use Rattle.ti_expand.specs.Expands.{IsFirstTooLong}
-use Rattle.ti_trace.specs.Objects.{IsTraceJson}
-use Rattle.ti_trace.specs.Trace.{IsTrace}
+use Rattle.ti_escape.specs.Laws.{is_printable}
+use Rattle.ti_sink.specs.Pages.{is_page}
 use Rattle.ti_line.specs.declared.given.Given.{Given}
 use Rattle.ti_line.specs.declared.options.TraceForm.{TraceForm}
 use Rattle.ti_line.specs.declared.options.TraceForm.TheVariants as forms
@@ -21,16 +22,15 @@ use Rattle.ti_tool.specs.declared.item_name.Names.TheVariants.{All}
 use Rattle.ti_tool.specs.declared.fault.ToolFault.{ToolFault}
 use Rattle.ti_tool.specs.declared.fault.ToolFault.TheVariants as fault
 
--- the trace of a capability as lines, or as a document of JSON in a line
-abbrev pub IsTraceAs : TraceForm → List ℕ → List Value → List ℕ → Type 0
-IsTraceAs (forms.Lines options) input parameters out = IsTrace input parameters options out
-IsTraceAs forms.Json input parameters out =
-    (text : List ℕ) × IsTraceJson input parameters text × (out ≡ text ++ codes "\n")
+-- the lines of a trace are a page, and a document of JSON is printable, in a line; rows show what they say
+abbrev pub IsTraceText : TraceForm → List ℕ → Type 0
+IsTraceText (forms.Lines options) out = is_page options.color out ≡ true
+IsTraceText forms.Json out = (text : List ℕ) × (list_all is_printable text ≡ true) × (out ≡ text ++ codes "\n")
 
--- that, or the first fault
+-- a trace, or the first fault
 abbrev pub IsTraced : List Value → TraceForm → List ℕ → Result (List ℕ) ToolFault → Type 0
 IsTraced parameters form input (Ok out) =
-    IsFaultless input × ((k : ℕ) → ¬ IsFirstTooLong parameters k) × IsTraceAs form input parameters out
+    IsFaultless input × ((k : ℕ) → ¬ IsFirstTooLong parameters k) × IsTraceText form out
 IsTraced parameters form input (Err e) = IsUnexpanded input parameters e
 
 -- the parameters if no word gives one

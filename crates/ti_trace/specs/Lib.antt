@@ -1,10 +1,1 @@
-pub mod Told
-pub mod Columns
-pub mod Items
-pub mod Lines
-pub mod Footer
-pub mod Joined
-pub mod Trace
-pub mod Objects
-pub mod Laws
-pub mod inner
+pub mod Faults

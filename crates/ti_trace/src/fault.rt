@@ -1,9 +1,5 @@
 //! Why a capability is not traced.
 
-ghost use Rattle.std.specs.Prelude.{◌≡◌};
-ghost use Rattle.ti_trace.specs.declared.fault.TraceFault.TheVariants as fault;
-
-use std::alloc::AllocError;
 use thiserror::Error;
 use ti_cap::CapRefused;
 
@@ -20,20 +16,4 @@ pub enum TraceFault {
     /// Memory was refused.
     #[error("Memory")]
     Memory,
-}
-
-impl From<AllocError> for TraceFault {
-    ghost from_gives = { λ _ e. e ≡ fault.Memory };
-
-    fn from(_refused: AllocError) -> TraceFault {
-        TraceFault::Memory
-    }
-}
-
-impl From<CapRefused> for TraceFault {
-    ghost from_gives = { λ refused e. e ≡ fault.Cap refused };
-
-    fn from(refused: CapRefused) -> TraceFault {
-        TraceFault::Cap(refused)
-    }
 }

@@ -6,19 +6,13 @@
 //! of JSON (RFC 8259) with the same content.
 #![tactic(auto)]
 
-mod columns;
 mod document;
 mod fault;
-mod footer;
-mod items;
-pub mod laws;
-mod object;
+mod lines;
 mod options;
-mod row;
-mod taking;
-mod tracing;
+mod pass;
 
 pub use document::trace_json;
 pub use fault::TraceFault;
+pub use lines::trace;
 pub use options::{TraceOptions, TraceRows};
-pub use tracing::trace;

@@ -46,9 +46,9 @@ fn runs_of_trace_end_as_they_should(rt: HostRuntime) {
 /// Runs of the command for a capability of an entry.
 const OF_AN_ENTRY: &str = r"
 # absent, a flag, and a number
-ti trace --of cup | @SMALL => 4 err trace: cup: no such text\n
-ti trace --of bw | @SMALL => 4 err trace: bw: no such text\n
-ti trace --of cols 1 | @SMALL => 4 err trace: cols: no such text\n
+ti trace --of cup | @SMALL => 4 err trace: cup: no such string\n
+ti trace --of bw | @SMALL => 4 err trace: bw: no such string\n
+ti trace --of cols 1 | @SMALL => 4 err trace: cols: no such string\n
 ti trace --of cursor_adress | @SMALL => 4 err trace: cursor_adress: no such capability; nearest: cursor_address\n
 ti trace --of Smulxx | @EXTENDED_BY_TIC => 4 err trace: Smulxx: no such capability; nearest: Smulx\n
 ti trace --of bel | @QUESTION => 4 err capability: UnknownEscape at 3\n

@@ -71,8 +71,9 @@ fn runs_of_bytes_are_joined(rt: HostRuntime) {
     check_rows(&rt, JOINED, &TraceWith(joined));
 }
 
-/// A capability with its first parameters, and its trace for programs.
+/// Capabilities with their first parameters, and their traces for programs.
 const FOR_PROGRAMS: &str = r#"
+ab | 0 => [{"place":0,"run":"ran","stack":[],"token":"a","wrote":"a"},{"place":1,"run":"ran","stack":[],"token":"b","wrote":"b"},{"bound":2,"depth":0,"height":0,"output":"ab","passed":0,"ran":2,"written":2}]
 %?%p1%t%p2%s%e9%; | 1 ^G0123456789abcdef => [{"place":0,"run":"ran","stack":[],"token":"%?","wrote":""},{"place":2,"run":"ran","stack":[1],"token":"%p1","wrote":""},{"place":5,"run":"ran","stack":[],"token":"%t","wrote":""},{"place":7,"run":"ran","stack":[{"length":17,"text":"\^G0123456789abcde"}],"token":"%p2","wrote":""},{"place":10,"run":"ran","stack":[],"token":"%s","wrote":"\^G0123456789abcdef"},{"place":12,"run":"ran","stack":[],"token":"%e","wrote":""},{"place":14,"run":"passed","stack":[],"token":"9","wrote":""},{"place":15,"run":"ran","stack":[],"token":"%;","wrote":""},{"bound":17,"depth":1,"height":1,"output":"\^G0123456789abcdef","passed":1,"ran":7,"written":17}]
 "#;
 

@@ -4,4 +4,5 @@ mod control;
 mod escape;
 mod pad;
 mod parser;
+mod sink;
 mod trace;

@@ -1,3 +1,0 @@
--- What private clauses alone cite.
-pub mod Rows
-pub mod Traced
