@@ -21,6 +21,7 @@ fn told(name: &[u8], found: &Found) -> String {
         }
         Found::ComputedByte => "computed-byte".into(),
         Found::Open(state, opened) => format!("string-open={state:?}{}", opened.map_or(String::new(), |place| format!("@{place}"))),
+        Found::Cut(place) => format!("string-cut@{place}"),
         Found::NotTried => "not-tried".into(),
     }
 }

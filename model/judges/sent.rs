@@ -1,5 +1,5 @@
 //! Prints what `functions_of` of `ti_parser` reports: for each line a line with a field for each reading and each way to take padding
-//! marks out, which has the outcome, the functions with their places, and the ends with the places at which they were opened. A line
+//! marks out, which has the outcome, the functions with their places, the ends with the places at which they were opened, and the place at which a string is cut off. A line
 //! has what the first parameter may be, and the hexadecimal bytes of a capability.
 
 extern crate alloc;
@@ -45,7 +45,8 @@ fn main() -> io::Result<()> {
                     let sent = functions_of(Global, reception, &capability).expect("memory");
                     let functions: Vec<String> = sent.functions.iter().zip(sent.places.iter()).map(|(function, place)| format!("{}@{place}", shown(function))).collect();
                     let ends: Vec<String> = sent.ends.iter().zip(sent.opened.iter()).map(|(parser, opened)| end(parser, *opened)).collect();
-                    fields.push(format!("{:?} {} {}", sent.outcome, functions.join(","), ends.join(",")));
+                    let cut = sent.cut.map_or(String::new(), |place| place.to_string());
+                    fields.push(format!("{:?} {} {} {cut}", sent.outcome, functions.join(","), ends.join(",")));
                 }
             }
         }

@@ -30,6 +30,8 @@ pub enum Found {
     ComputedByte,
     /// An end within a function or a character, and the place of the token that opened it, if it is a function.
     Open(State, Option<usize>),
+    /// A string that an escape cuts off, and the place of the token that shows it.
+    Cut(usize),
     /// More forms than are followed.
     NotTried,
 }
@@ -41,6 +43,7 @@ impl Found {
             (Found::Function(one, place), Found::Function(two, its)) => place == its
                 && one.is_same(two),
             (Found::Open(one, place), Found::Open(two, its)) => one == two && place == its,
+            (Found::Cut(place), Found::Cut(its)) => place == its,
             (Found::ComputedByte, Found::ComputedByte) | (Found::NotTried, Found::NotTried) => true,
             _ => false,
         }
@@ -165,6 +168,17 @@ fn add_outcome<A: Allocator>(
     }
 }
 
+/// Adds that a string is cut off.
+fn add_cut<A: Allocator>(found: &mut Vec<Found, A>, cut: Option<usize>) -> Result<(), AllocError>
+    ensures before { OnOk result (IsSilent found.new.items → IsSilent found.old.items) }
+    ensures beyond { OnOk result ((name : List ℕ) → AreBeyond ALLOWED name found.old.items → AreBeyond ALLOWED name found.new.items) }
+{
+    match cut {
+        None => Ok(()),
+        Some(place) => add(found, Found::Cut(place)),
+    }
+}
+
 /// Adds what a string can send, received in one way, that its name does not allow.
 fn add_received<A: Allocator + Copy>(
     alloc: A,
@@ -179,6 +193,7 @@ fn add_received<A: Allocator + Copy>(
 {
     let sent = functions_of(alloc, reception, capability)?;
     add_functions(found, name, &sent.functions, &sent.places)?;
+    add_cut(found, sent.cut)?;
     add_outcome(found, sent.outcome, &sent.ends, &sent.opened)?;
     Ok(())
 }

@@ -145,10 +145,29 @@ covers_any_digit reading c byte e is =
 
 -- ---- receivers
 
-hex-begins : (marks : Marks) (byte : ℕ) → is_hex byte ≡ true → may_begin marks Text byte ≡ false
-hex-begins Untouched byte h = refl
-hex-begins Tputs byte h = hex-dollar byte h
-hex-begins TiPad byte h = hex-dollar byte h
+other-begins : (marks : Marks) (byte : ℕ) → is_dollar byte ≡ false → may_begin marks Text byte ≡ false
+other-begins Untouched byte h = refl
+other-begins Tputs byte h = h
+other-begins TiPad byte h = h
+
+-- a receiver outside of marks sends a byte on that begins none
+module _ (r : Reception) (byte : ℕ) (k : Receiver) (sent : List Function) (after : List Receiver) (no : is_dollar byte ≡ false) (front : k.front ≡ Text) (ahead : k.ahead ≡ Unknown) where
+  moves : IsSentOn r.reading byte k (stepped r.reading byte k Text Unknown) sent after → IsMoved r.reading byte k (move_of r.marks k.front k.ahead byte) sent after
+  moves h =
+      let P : Front → Type 0 = λ f. IsMoved r.reading byte k (move_of r.marks f k.ahead byte) sent after in
+      let Q : Ahead → Type 0 = λ a. IsMoved r.reading byte k (move_of r.marks Text a byte) sent after in
+      let R : Bool → Type 0 = λ b. IsMoved r.reading byte k (if b then Sends (beyond_dollar r.marks) (Unmarked Dollar) else Sends Text Unknown) sent after in
+      subst P (sym front) (subst Q (sym ahead) (subst R (sym (other-begins r.marks byte no)) h))
+
+  begins : may_begin r.marks k.front byte ≡ true → CoverMore (begun k ∷ []) after
+  begins e =
+      let P : Front → Type 0 = λ f. may_begin r.marks f byte ≡ true in
+      let none : may_begin r.marks Text byte ≡ false = other-begins r.marks byte no in
+      let yes : may_begin r.marks Text byte ≡ true = subst P front e in
+      absurd (cc)
+
+  pub lead_outside : IsSentOn r.reading byte k (stepped r.reading byte k Text Unknown) sent after → Lead r (byte ∷ []) (k ∷ []) sent after
+  lead_outside h = lead_heard r byte k sent after begins (moves h)
 
 -- a receiver in a color after a digit that is not known
 abbrev pub after_any : Receiver → Receiver
@@ -166,29 +185,15 @@ module _ (r : Reception) (byte : ℕ) (k : Receiver) (sent : List Function) (aft
         parser = configuration_twice _ _ _ one.configuration g.parser;
       }))
 
-  moves : IsSentOn r.reading byte k (stepped r.reading byte k Text Unknown) sent after → IsMoved r.reading byte k (move_of r.marks k.front k.ahead byte) sent after
-  moves h =
-      let P : Front → Type 0 = λ f. IsMoved r.reading byte k (move_of r.marks f k.ahead byte) sent after in
-      let Q : Ahead → Type 0 = λ a. IsMoved r.reading byte k (move_of r.marks Text a byte) sent after in
-      let R : Bool → Type 0 = λ b. IsMoved r.reading byte k (if b then Sends (beyond_dollar r.marks) (Unmarked Dollar) else Sends Text Unknown) sent after in
-      subst P (sym is.front) (subst Q (sym is.ahead) (subst R (sym (hex-begins r.marks byte hex)) h))
-
-  begins : may_begin r.marks k.front byte ≡ true → CoverMore (begun k ∷ []) after
-  begins e =
-      let P : Front → Type 0 = λ f. may_begin r.marks f byte ≡ true in
-      let no : may_begin r.marks Text byte ≡ false = hex-begins r.marks byte hex in
-      let yes : may_begin r.marks Text byte ≡ true = subst P is.front e in
-      absurd (cc)
-
   lead_color : CoverMore (after_any k ∷ []) after → SendMore (listed (with_any_digit k.parser).output.ended) sent → SendMore (listed (with_any_digit k.parser).output.function) sent
       → Lead r (byte ∷ []) (k ∷ []) sent after
   lead_color c ended function =
       let one : CoversStep (with_any_digit k.parser) (step r.reading k.parser byte) = covers_any_digit r.reading k.parser byte is.state hex in
-      lead_heard r byte k sent after begins (moves (record {
+      lead_outside r byte k sent after (hex-dollar byte hex) is.front is.ahead (record {
         covers = covered one c;
         ended = sent_instead _ _ sent one.ended ended;
         function = sent_instead _ _ sent one.function function;
-      }))
+      })
 
 -- ---- receivers in a color, and others
 
@@ -220,7 +225,7 @@ but_next r bytes xs others after sent i x low e h g rest c k =
 
 -- ---- the digits among some bytes
 
-but_all : (r : Reception) (bytes : List ℕ) (before others after all : List Receiver) (sent functions : List Function) → LeadBut r bytes before others sent after
+pub but_all : (r : Reception) (bytes : List ℕ) (before others after all : List Receiver) (sent functions : List Function) → LeadBut r bytes before others sent after
     → SendMore sent functions → CoverMore after all → Lead r bytes others functions all → Lead r bytes before functions all
 but_all r bytes before others after all sent functions h s a g rest x k = elim (h rest x k) [
   | inl c ↦ g rest x c

@@ -6,6 +6,7 @@ pub mod DigitLemmas
 pub mod Examples
 pub mod FormLemmas
 pub mod HearLemmas
+pub mod InTextLemmas
 pub mod KnowsLemmas
 pub mod LeadLemmas
 pub mod PathsLemmas

@@ -99,7 +99,7 @@ printable-swallowed GoesOn byte state h =
     let by_test : Bool → Bool = λ b. is_string state && (b && ignored) in
     ap by_test (high-printable byte h) ∙ none_of (is_string state) ignored
 
-text_step : (reading : Reading) (c : Configuration) (byte : ℕ) → is_text c.state ≡ true → is_data byte ≡ true → step reading c byte ≡ quiet (after_text c)
+pub text_step : (reading : Reading) (c : Configuration) (byte : ℕ) → is_text c.state ≡ true → is_data byte ≡ true → step reading c byte ≡ quiet (after_text c)
 unfolding step taken plain
 text_step reading c byte t d =
     let clean : Configuration = record c { begun = Nothing } in
@@ -317,7 +317,7 @@ spread_next marks xs after more i x low is old kept new m front h e comes =
       | inr g ↦ let Q : Receiver → Type 0 = λ y. CoversMoment y m in new m front (inl (subst Q (sym is) g)) e comes
     ]
 
-take_whole : (xs : List Receiver) (i : ℕ) → length xs ≤ i → take i xs ≡ xs
+pub take_whole : (xs : List Receiver) (i : ℕ) → length xs ≤ i → take i xs ≡ xs
 take_whole [] zero e = refl
 take_whole [] (suc i) e = refl
 take_whole (x ∷ xs) zero e = absurd (omega arith)

@@ -21,6 +21,7 @@ mod point;
 mod print;
 mod reading;
 mod receiver;
+mod settled;
 mod state;
 mod text;
 mod tops;

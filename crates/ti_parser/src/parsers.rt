@@ -16,6 +16,7 @@ use crate::number::count_hex;
 use crate::padding::{Front, Marks, Part};
 use crate::reading::Reception;
 use crate::receiver::{Ahead, Move, Receiver, may_begin, move_of};
+use crate::settled::{step_text, unless_text};
 use std::alloc::{AllocError, Allocator};
 
 /// Whether one of the parsers stands for another.
@@ -84,7 +85,7 @@ pub(crate) fn note_places(parsers: &mut [Receiver], place: usize)
 }
 
 /// How many functions are looked at before one is added.
-const RECENT: usize = 64;
+const RECENT: usize = 16;
 
 /// Whether one of the functions that came last is the same.
 fn is_recent(sent: &[Function], function: &Function) -> bool
@@ -92,7 +93,7 @@ fn is_recent(sent: &[Function], function: &Function) -> bool
 {
     let recent = &sent[sent.len().saturating_sub(RECENT)..];
     for known in recent {
-        if known.is_same(function) {
+        if known.letter == function.letter && known.is_same(function) {
             return true;
         }
     }
@@ -301,7 +302,7 @@ pub(crate) fn unite<A: Allocator>(
     Ok(few)
 }
 
-/// The parsers after each of these bytes, in turn.
+/// The parsers after each of these bytes, in turn. Of text one step is enough for a parser that takes it as text.
 fn step_each<A: Allocator + Copy>(
     alloc: A,
     reception: Reception,
@@ -313,9 +314,11 @@ fn step_each<A: Allocator + Copy>(
     ensures leads { IfOk result
         (λ after. EachLeads reception bytes.now parsers.now sent.new.items after.items) }
 {
-    let mut after = Vec::new(alloc);
+    let mut others = Vec::new(alloc);
+    let mut after = step_text(alloc, parsers, &mut others)?;
     for byte in bytes {
-        let next = step_all(alloc, reception, parsers, *byte, sent)?;
+        let here = unless_text(parsers, &others, *byte);
+        let next = step_all(alloc, reception, here, *byte, sent)?;
         insert_all(&mut after, &next, Detail::ButLast)?;
     }
     let few = limit(alloc, after)?;

@@ -15,7 +15,7 @@ use crate::function::Function;
 use crate::padding::Front;
 use crate::parsers::{Lost, note_places};
 use crate::point::{OpenPoints, Point, nowhere, pop_open, push_open, union};
-use crate::reading::Reception;
+use crate::reading::{Coding, Reception};
 use crate::receiver::{Ahead, Receiver};
 use crate::tops::Tops;
 use crate::write::write;
@@ -35,6 +35,56 @@ struct Paths<A: Allocator> {
     places: Vec<usize, A>,
     /// The place of the token that is met.
     place: usize,
+    /// Where an escape cuts a string off.
+    cuts: Cuts,
+}
+
+/// Whether a byte after an escape within a string shows that the escape cuts the string off: it is not the `\` that ends it, nor a
+/// `$`, which may begin a padding mark.
+fn cuts_off(coding: Coding, byte: u8) -> bool {
+    match (coding, byte) {
+        (_, b'\\' | b'$') | (Coding::Bytes, 0xdc) => false,
+        _ => true,
+    }
+}
+
+/// Whether a token after an escape within a string shows that the escape cuts it off: by its byte, or by the digits of a number.
+fn may_cut(coding: Coding, token: &Token) -> bool {
+    match token {
+        Token::Byte(byte) => cuts_off(coding, *byte),
+        Token::Print(_) => true,
+        _ => false,
+    }
+}
+
+/// The first tokens by which an escape is seen to cut a string off.
+#[derive(Clone, Copy)]
+struct Cuts {
+    /// The place of the first.
+    seen: Option<usize>,
+    /// The place of the first that counts only if a `>` comes after it, which completes a padding mark before it.
+    awaited: Option<usize>,
+}
+
+impl Cuts {
+    /// The same after a token that comes to some parsers.
+    fn after(self, coding: Coding, parsers: &[Receiver], token: &Token, place: usize) -> Cuts {
+        let cuts = may_cut(coding, token);
+        let found = cuts && parsers.iter().any(|parser| parser.is_cut(false));
+        let awaits = cuts && parsers.iter().any(|parser| parser.is_cut(true));
+        let completes = matches!(token, Token::Byte(b'>'));
+        Cuts {
+            seen: match (self.seen, self.awaited) {
+                (None, Some(awaited)) if completes => Some(awaited),
+                (None, _) if found => Some(place),
+                _ => self.seen,
+            },
+            awaited: match self.awaited {
+                None if awaits => Some(place),
+                _ => self.awaited,
+            },
+        }
+    }
 }
 
 impl<A: Allocator + Copy> Paths<A> {
@@ -120,6 +170,10 @@ impl<A: Allocator + Copy> Paths<A> {
                 Ok(())
             }
             _ => {
+                let coding = reception.reading.coding;
+                self.cuts = self
+                    .cuts
+                    .after(coding, &self.here.parsers, token, self.place);
                 let mut parsers = write(alloc, reception, &self.here, token, &mut self.sent)?;
                 note_places(&mut parsers, self.place);
                 self.here = Point {
@@ -189,6 +243,8 @@ pub struct Sent<A: Allocator> {
     pub ends: Vec<Configuration, A>,
     /// For each of these the place in the capability of the token with which the parser last left the ground state, if it is not in it.
     pub opened: Vec<Option<usize>, A>,
+    /// The place of the first token by which an escape is seen to cut a string off, if there is one.
+    pub cut: Option<usize>,
     /// How far the paths were followed.
     pub outcome: Outcome,
 }
@@ -267,6 +323,10 @@ pub fn functions_of<A: Allocator + Copy>(
         sent: Vec::new(alloc),
         places: Vec::new(alloc),
         place: 0,
+        cuts: Cuts {
+            seen: None,
+            awaited: None,
+        },
     };
     let outcome = match paths.pass(alloc, reception, capability) {
         Ok(()) => Outcome::Whole,
@@ -278,6 +338,7 @@ pub fn functions_of<A: Allocator + Copy>(
     let mut opened = Vec::new(alloc);
     end_all(&mut ends, &mut opened, &paths.here.parsers)?;
     opened.resize(ends.len(), None)?;
+    let cut = paths.cuts.seen;
     let functions = paths.sent;
     let mut places = paths.places;
     places.resize(functions.len(), paths.place)?;
@@ -286,6 +347,7 @@ pub fn functions_of<A: Allocator + Copy>(
         places,
         ends,
         opened,
+        cut,
         outcome,
     })
 }

@@ -7,7 +7,7 @@ ghost use Rattle.std.specs.Bool.{OnTrue};
 ghost use Rattle.ti_parser.specs.Machine.{after_text};
 ghost use Rattle.ti_parser.specs.Padding.{beyond_dollar};
 ghost use Rattle.ti_parser.specs.inner.Colors.{IsColor};
-ghost use Rattle.ti_parser.specs.inner.Texts.{based};
+ghost use Rattle.ti_parser.specs.inner.Texts.{IsInText, based};
 ghost use Rattle.ti_parser.specs.inner.Receivers.{ComesAt, CoverMore, CoversMoment, Moment, ahead_by, may_begin, move_of, next_ahead, outside, sends_on, skips_on};
 
 use crate::configuration::{Configuration, Detail};
@@ -250,6 +250,26 @@ impl Receiver {
             return false;
         }
         true
+    }
+
+    /// Whether it takes text as text, outside of marks.
+    pub(crate) fn is_in_text(&self) -> bool
+        ensures { OnTrue result (IsInText self.now) }
+    {
+        match (self.front, self.ahead) {
+            (Front::Text, Ahead::Unknown) => self.parser.state.is_text(),
+            _ => false,
+        }
+    }
+
+    /// Whether an escape came last that cut a string off, unless a `\` comes next, and whether a `>` has to come, or need not.
+    pub(crate) fn is_cut(&self, is_closed: bool) -> bool {
+        match (self.front, self.ahead, self.parser.state) {
+            (Front::Mark(_), _, _) => false,
+            (_, Ahead::Closed, State::AfterCut) => is_closed,
+            (_, _, State::AfterCut) => !is_closed,
+            _ => false,
+        }
     }
 
     /// Whether it is in a color of the Linux console, outside of marks.

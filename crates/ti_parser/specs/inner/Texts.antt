@@ -1,7 +1,9 @@
 -- Receivers of a text that is not known, in a body or outside of functions, where it changes no parser.
-use Rattle.std.specs.Prelude.{◌≡◌, ℕ, ◌==◌, ◌&&◌, Bool, true, false, List, [], ◌∷◌, nat_lt}
+use Rattle.std.specs.Prelude.{◌≡◌, ℕ, ◌==◌, ◌&&◌, Bool, true, false, not, List, [], ◌∷◌, nat_lt}
 use Rattle.std.specs.List.{AllByRecursion}
+use Rattle.ti_parser.specs.Given.{is_data}
 use Rattle.ti_parser.specs.Machine.{after_text}
+use Rattle.ti_parser.specs.Padding.{is_dollar}
 use Rattle.ti_parser.specs.States.{is_text}
 use Rattle.ti_parser.specs.declared.padding.Front.{Front}
 use Rattle.ti_parser.specs.declared.padding.Front.TheVariants.{Text, Literal, Mark}
@@ -42,6 +44,16 @@ fronts TiPad =
 -- a parser outside of marks
 abbrev pub based : Receiver → Receiver
 based k = record k { front = Text; ahead = Unknown }
+
+-- outside of marks, where a byte of data is text alone
+pub record IsInText (known : Receiver) : Type 0 where
+  pub front : known.front ≡ Text
+  pub ahead : known.ahead ≡ Unknown
+  pub text : is_text known.parser.state ≡ true
+
+-- a byte of data that begins no mark
+abbrev pub is_text_byte : ℕ → Bool
+is_text_byte byte = is_data byte && not (is_dollar byte)
 
 -- the parser of a receiver is among the bases, as it is and after text
 pub record IsBase (marks : Marks) (bases : List Receiver) (k : Receiver) : Type 0 where

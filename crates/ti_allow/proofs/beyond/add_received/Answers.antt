@@ -12,7 +12,7 @@ pub returns-clause-table : goal.returns-clause-table
 returns-clause-table g c = λ silent.
     let name = c.args.name.now in
     let sent = c.in_ok-sent.sent in
-    let functions_silent = c.in_ok-add_outcome.ensures.before silent in
+    let functions_silent = c.in_ok-add_cut.ensures.before (c.in_ok-add_outcome.ensures.before silent) in
     let Allowed : List Function → Type 0 = λ functions. AreAllowed ALLOWED name functions in
     let Clean : List Configuration → Type 0 = λ ends. AllByRecursion IsClean ends in
     only_table ALLOWED name c.args.reception c.args.capability.now sent.ends.items sent.functions.items
@@ -22,4 +22,5 @@ returns-clause-table g c = λ silent.
 
 pub returns-clause-beyond : goal.returns-clause-beyond
 returns-clause-beyond g c = λ are.
-    c.in_ok-add_outcome.ensures.beyond c.args.name.now (c.in_ok-add_functions.ensures.beyond are)
+    let name = c.args.name.now in
+    c.in_ok-add_outcome.ensures.beyond name (c.in_ok-add_cut.ensures.beyond name (c.in_ok-add_functions.ensures.beyond are))
