@@ -144,7 +144,7 @@ SPLITS = {
 
 def sequence_of(sent, meaning):
     """What is told of a sequence that is not ended."""
-    if not meaning.endswith("\\E[ is not ended") and not meaning.endswith("\\E[ that is not ended"):
+    if not meaning.endswith("unterminated \\E[ sequence"):
         return meaning
     for byte, (pattern, _, _) in SPLITS.items():
         if pattern.search(sent):
@@ -194,5 +194,5 @@ def findings(texts, numbers, all_told):
             found += [("sgr-text", meaning) for meaning in first(name, values, outputs, shows, ", of which some is shown")]
         if ansi:
             found += [("control-sequence", meaning)
-                      for meaning in first(name, values, outputs, UNENDED.search, ", where a \\E[ is not ended")]
+                      for meaning in first(name, values, outputs, UNENDED.search, ", with an unterminated \\E[ sequence")]
         yield from ((name, text, word, meaning) for word, meaning in found)

@@ -11,7 +11,7 @@ use Rattle.ti_lint.specs.declared.token_finding.TokenFinding.TheVariants.{StackU
 use Rattle.ti_report.specs.Explanations.{IsUnknown, explained, finding_called}
 use Rattle.ti_report.specs.Findings.{finding_word}
 use Rattle.ti_report.specs.declared.finding.Finding.{Finding}
-use Rattle.ti_report.specs.declared.finding.Finding.TheVariants.{Token, Control, Malformed, UnusedParameter, UnusedColumn, UninterpretedEscape, UninterpretedPercent, FalseMark, MarkInKey, HalfPaired, EqualPair, ToggledPair, KeyPrefix, AlikeKeys, RepeatedName, StandardName, ColorsStay, NoColors, ColorsAreFixed, Layout, Base, EmptyOutput, SameOutput, NegativeNumber, OriginDiffers, IgnoredAttribute, DifferingAttribute, Combination, ShownText, UnendedSequence, SpacedSequence, SignedSequence, UnendedText, SpacedText, SignedText, EmptyKey, LongDelay, LongDelays, Runs, Reads, Size, LoneMir, NamesControl, NamesMalformed, EmptyAlias, UnfitAlias, LongNames, OwnNameControl, RepeatedAlias, NotTried, NotAllTried, DividesByZero, DividesByParameter, DividesLeast, OpenLine, UnknownFunction, ComputedByte, OpenString, NotFollowed, NotEcma}
+use Rattle.ti_report.specs.declared.finding.Finding.TheVariants.{Token, Control, Malformed, UnusedParameter, UnusedColumn, UninterpretedEscape, UninterpretedPercent, FalseMark, MarkInKey, HalfPaired, EqualPair, ToggledPair, KeyPrefix, AlikeKeys, RepeatedName, StandardName, ColorsStay, NoColors, ColorsAreFixed, Layout, Base, EmptyOutput, SameOutput, NegativeNumber, OriginDiffers, IgnoredAttribute, DifferingAttribute, Combination, ShownText, UnendedSequence, SpacedSequence, SignedSequence, UnendedText, SpacedText, SignedText, EmptyKey, LongDelay, LongDelays, Runs, Reads, Size, ManyColors, LoneMir, NamesControl, NamesMalformed, EmptyAlias, UnfitAlias, LongNames, OwnNameControl, RepeatedAlias, NotTried, NotAllTried, DividesByZero, DividesByParameter, DividesLeast, OpenLine, UnknownFunction, ComputedByte, OpenString, CutString, NotFollowed, NotEcma}
 
 abbrev has : List ℕ → Finding → Bool
 has word finding = bytes_eq (finding_word finding) word
@@ -64,6 +64,7 @@ listed OpenLine = refl
 listed UnknownFunction = refl
 listed ComputedByte = refl
 listed OpenString = refl
+listed CutString = refl
 listed NotFollowed = refl
 listed NotEcma = refl
 listed SpacedSequence = refl
@@ -104,6 +105,7 @@ listed LongDelays = refl
 listed Runs = refl
 listed Reads = refl
 listed Size = refl
+listed ManyColors = refl
 listed LoneMir = refl
 listed NamesControl = refl
 listed NamesMalformed = refl

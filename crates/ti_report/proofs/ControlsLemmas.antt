@@ -15,7 +15,7 @@ use Rattle.ti_report.specs.Reported.{harmful, reported}
 use Rattle.ti_report.specs.Reports.{AreRemarks, IsReport, OnlyTable}
 use Rattle.ti_report.specs.Values.{text_named}
 use Rattle.ti_report.specs.declared.finding.Finding.{Finding}
-use Rattle.ti_report.specs.declared.finding.Finding.TheVariants.{ComputedByte, Control, NotAllTried, NotEcma, NotFollowed, OpenLine, OpenString, UnknownFunction}
+use Rattle.ti_report.specs.declared.finding.Finding.TheVariants.{ComputedByte, Control, NotAllTried, NotEcma, NotFollowed, OpenLine, OpenString, CutString, UnknownFunction}
 use Rattle.ti_report.specs.inner.Growing.{Examined, Gains, Report}
 use Rattle.ti_report.proofs.HarmLemmas.{harm_is_reported}
 use Rattle.ti_report.specs.Subjects.{KnownText, UnknownText, known_texts, unknown_texts}
@@ -165,6 +165,7 @@ harm OpenLine e = refl
 harm UnknownFunction e = refl
 harm ComputedByte e = refl
 harm OpenString e = refl
+harm CutString e = refl
 harm NotFollowed e = refl
 harm NotEcma e = refl
 harm NotAllTried e = refl

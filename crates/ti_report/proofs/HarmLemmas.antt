@@ -7,7 +7,7 @@ use Rattle.ti_report.specs.Findings.{finding_row, is_harm}
 use Rattle.ti_report.specs.Remarks.{Remark}
 use Rattle.ti_report.specs.Reported.{HarmIsReported, Head, head, is_all, is_hidden_by, is_reported}
 use Rattle.ti_report.specs.declared.finding.Finding.{Finding}
-use Rattle.ti_report.specs.declared.finding.Finding.TheVariants.{ComputedByte, Control, NotAllTried, NotEcma, NotFollowed, OpenString, UnknownFunction, DividesByParameter, DividesByZero, DividesLeast, EmptyAlias, LongDelay, LongDelays, LongNames, NamesControl, NamesMalformed, OpenLine, OwnNameControl, Reads, Runs, Size, UnfitAlias}
+use Rattle.ti_report.specs.declared.finding.Finding.TheVariants.{ComputedByte, Control, NotAllTried, NotEcma, NotFollowed, OpenString, CutString, UnknownFunction, DividesByParameter, DividesByZero, DividesLeast, EmptyAlias, LongDelay, LongDelays, LongNames, NamesControl, NamesMalformed, OpenLine, OwnNameControl, Reads, Runs, Size, ManyColors, UnfitAlias}
 
 -- of what passes a test, those that pass another one that implies it are the same
 kept : {X : Type 0} (passes harms : X → Bool) → ((x : X) → harms x ≡ true → passes x ≡ true) → (xs : List X) → filter harms (filter passes xs) ≡ filter harms xs
@@ -25,6 +25,7 @@ unhidden : (finding : Finding) → is_harm finding ≡ true → ((finding_row fi
 unhidden Runs harm = (refl, refl)
 unhidden Reads harm = (refl, refl)
 unhidden Size harm = (refl, refl)
+unhidden ManyColors harm = (refl, refl)
 unhidden LongDelay harm = (refl, refl)
 unhidden LongDelays harm = (refl, refl)
 unhidden NamesControl harm = (refl, refl)
@@ -38,6 +39,7 @@ unhidden OpenLine harm = (refl, refl)
 unhidden UnknownFunction harm = (refl, refl)
 unhidden ComputedByte harm = (refl, refl)
 unhidden OpenString harm = (refl, refl)
+unhidden CutString harm = (refl, refl)
 unhidden NotFollowed harm = (refl, refl)
 unhidden NotEcma harm = (refl, refl)
 unhidden NotAllTried harm = (refl, refl)

@@ -1,5 +1,5 @@
 -- What programs do with an entry beside sending its texts: they run a command, send files, and keep a screen of its size.
-use Rattle.std.specs.Prelude.{ℕ, ◌&&◌, ◌||◌, Bool, not, List, [], ◌++◌, codes, if◌then◌else◌, is_none, nat_eq, ℤ, pos, negsuc}
+use Rattle.std.specs.Prelude.{ℕ, ◌&&◌, ◌||◌, Bool, not, List, [], ◌++◌, codes, if◌then◌else◌, is_none, nat_eq, nat_lt, ℤ, pos, negsuc}
 use Rattle.std.specs.List.{starts_with}
 use Rattle.ti_control.specs.Entries.{is_vast, starts_parent, tabset}
 use Rattle.ti_words.specs.Texts.{TextOf, TextValue}
@@ -32,6 +32,13 @@ natural (negsuc n) = 0
 abbrev pub has_vast_screen : EntryValue → Bool
 has_vast_screen v = is_vast (natural (number_named v (codes "lines"))) (natural (number_named v (codes "cols")))
 
+-- more colors or pairs of them than a program can hold
+abbrev pub most_colors : ℕ
+most_colors = 16777216
+
+abbrev pub has_many_colors : EntryValue → Bool
+has_many_colors v = nat_lt most_colors (natural (number_named v (codes "colors"))) || nat_lt most_colors (natural (number_named v (codes "pairs")))
+
 -- the cursor may move in insert mode (terminfo(5), Insert/Delete Character), and nothing inserts
 abbrev pub is_mir_alone : EntryValue → Bool
 is_mir_alone v = has v (codes "mir") && not (has v (codes "smir") || has v (codes "ich") || has v (codes "ich1"))
@@ -41,4 +48,5 @@ action_remarks v =
     on_command (codes "iprog") (text_named v (codes "iprog"))
     ++ (on_file (codes "if") (text_named v (codes "if"))
     ++ (on_file (codes "rf") (text_named v (codes "rf"))
-    ++ (found_if (has_vast_screen v) findings.Size ++ found_if (is_mir_alone v) findings.LoneMir)))
+    ++ (found_if (has_vast_screen v) findings.Size
+    ++ (found_if (has_many_colors v) findings.ManyColors ++ found_if (is_mir_alone v) findings.LoneMir))))

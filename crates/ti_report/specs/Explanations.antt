@@ -8,7 +8,7 @@ use Rattle.ti_cap.specs.declared.language.CapFault.TheVariants.{UnknownEscape}
 use Rattle.ti_lint.specs.declared.token_finding.TokenFinding.TheVariants.{StackUnderflow, TermcapParameter, StackResidue, ParameterRange, RepeatedIncrement, UnusedIncrement, LateIncrement, UnsetVariable, DeadStore, OperandType, NoEffect, ConstantCondition, RepeatedCondition}
 use Rattle.ti_report.specs.Findings.{finding_word}
 use Rattle.ti_report.specs.declared.finding.Finding.{Finding}
-use Rattle.ti_report.specs.declared.finding.Finding.TheVariants.{Token, Control, Malformed, UnusedParameter, EmptyOutput, SameOutput, NegativeNumber, IgnoredAttribute, DifferingAttribute, Combination, ShownText, UnendedSequence, OriginDiffers, UninterpretedEscape, UninterpretedPercent, FalseMark, LongDelay, MarkInKey, HalfPaired, EqualPair, EmptyKey, KeyPrefix, RepeatedName, NamesControl, RepeatedAlias, Runs, Reads, Size, DividesLeast, ColorsStay, Layout, Base, AlikeKeys, LoneMir, NotTried, UnknownFunction, ComputedByte, OpenString, NotEcma}
+use Rattle.ti_report.specs.declared.finding.Finding.TheVariants.{Token, Control, Malformed, UnusedParameter, EmptyOutput, SameOutput, NegativeNumber, IgnoredAttribute, DifferingAttribute, Combination, ShownText, UnendedSequence, OriginDiffers, UninterpretedEscape, UninterpretedPercent, FalseMark, LongDelay, MarkInKey, HalfPaired, EqualPair, EmptyKey, KeyPrefix, RepeatedName, NamesControl, UnfitAlias, RepeatedAlias, Runs, Reads, Size, DividesLeast, ColorsStay, Layout, Base, AlikeKeys, LoneMir, NotTried, UnknownFunction, ComputedByte, OpenString, CutString, NotEcma}
 
 -- a summary is printable characters after the word
 abbrev pub IsSummary : List ℕ → List ℕ → Type 0
@@ -30,9 +30,9 @@ explained =
     Token OperandType ∷ Token NoEffect ∷ Token ConstantCondition ∷ Token RepeatedCondition ∷ EmptyOutput ∷ SameOutput ∷
     NegativeNumber ∷ IgnoredAttribute ∷ DifferingAttribute ∷ Combination ∷ ShownText ∷ UnendedSequence ∷ OriginDiffers ∷
     UninterpretedEscape ∷ UninterpretedPercent ∷ FalseMark ∷ LongDelay ∷ MarkInKey ∷ HalfPaired ∷ EqualPair ∷ EmptyKey ∷
-    KeyPrefix ∷ RepeatedName ∷ NamesControl ∷ RepeatedAlias ∷ Runs ∷ Reads ∷ Size ∷ DividesLeast ∷ Control Answer ∷ Control Reports ∷
+    KeyPrefix ∷ RepeatedName ∷ NamesControl ∷ UnfitAlias ∷ RepeatedAlias ∷ Runs ∷ Reads ∷ Size ∷ DividesLeast ∷ Control Answer ∷ Control Reports ∷
     Control Title ∷ Control Clipboard ∷ Control Print ∷ Control Palette ∷ Control Window ∷ Control Reset ∷
-    Control OtherControl ∷ UnknownFunction ∷ ComputedByte ∷ OpenString ∷ NotEcma ∷ ColorsStay ∷ Layout ∷ Base ∷ AlikeKeys ∷ LoneMir ∷ NotTried ∷ []
+    Control OtherControl ∷ UnknownFunction ∷ ComputedByte ∷ OpenString ∷ CutString ∷ NotEcma ∷ ColorsStay ∷ Layout ∷ Base ∷ AlikeKeys ∷ LoneMir ∷ NotTried ∷ []
 
 -- the first of these that has a word
 abbrev pub finding_called : List ℕ → Option Finding

@@ -1,5 +1,5 @@
 -- What is wrong with a text, by how it is used.
-use Rattle.std.specs.Prelude.{◌++◌, nat_lt, option_to_list, ◌≡◌, ◌≢◌, ◌⊎◌, ◌↔◌, ℕ, List, [], ◌∷◌, ◌≤◌, ◌%◌, ◌==◌, ◌&&◌, ◌||◌, Bool, AllPairs, Contains, codes, if◌then◌else◌, length}
+use Rattle.std.specs.Prelude.{Option, Some, None, ◌++◌, nat_lt, ◌≡◌, ◌≢◌, ◌⊎◌, ◌↔◌, ℕ, List, [], ◌∷◌, ◌≤◌, ◌%◌, ◌==◌, ◌&&◌, ◌||◌, Bool, AllPairs, Contains, codes, if◌then◌else◌, length}
 use Rattle.std.specs.Str.{bytes_eq}
 use Rattle.ti_cap.specs.declared.parameter_set.ParameterSet.{ParameterSet}
 use Rattle.ti_cap.specs.Sources.{Has, IsNamed}
@@ -153,14 +153,17 @@ half_paired has_pairs text = if has_pairs && (length text % 2 == 1) then unplace
 abbrev pub is_long : List ℕ → Bool
 is_long left = nat_lt 10000 (delay_at left)
 
--- marks of more than 32,767 ms together
+-- marks of more than two seconds together
 abbrev pub are_long : List ℕ → Bool
-are_long text = nat_lt 327670 (total_delay text)
+are_long text = nat_lt 20000 (total_delay text)
+
+-- the first that is long, or all of them if they are long together
+abbrev pub on_delays : Option ℕ → List ℕ → List TextRemark
+on_delays (Some place) text = placed (place ∷ []) findings.LongDelay NoEvidence
+on_delays None text = if are_long text then unplaced findings.LongDelays NoEvidence else []
 
 abbrev pub delay_remarks : List ℕ → List TextRemark
-delay_remarks text =
-    placed (option_to_list (first_place is_long text)) findings.LongDelay NoEvidence
-    ++ (if are_long text then unplaced findings.LongDelays NoEvidence else [])
+delay_remarks text = on_delays (first_place is_long text) text
 
 -- ---- the judgement of a text
 

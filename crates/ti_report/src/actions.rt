@@ -1,7 +1,7 @@
 //! Uses of an entry by programs beside sending its texts: they run a command, send files, and keep a screen of its size.
 
 ghost use Rattle.std.specs.Prelude.{◌≡◌, OnOk};
-ghost use Rattle.ti_report.specs.Actions.{action_remarks, has_vast_screen, is_mir_alone, is_tabset, natural, on_command, on_file};
+ghost use Rattle.ti_report.specs.Actions.{action_remarks, has_many_colors, has_vast_screen, is_mir_alone, is_tabset, natural, on_command, on_file};
 ghost use Rattle.ti_report.specs.Values.{text_named};
 ghost use Rattle.ti_report.specs.inner.Growing.{GainsThese};
 
@@ -39,6 +39,18 @@ fn has_vast_screen(entry: &Entry<'_>) -> bool
     let lines = natural(number_named(entry, "lines"));
     let columns = natural(number_named(entry, "cols"));
     is_vast(lines, columns)
+}
+
+/// The most colors, or pairs of them, that a program can hold.
+const MOST_COLORS: u32 = 0x100_0000;
+
+/// Whether there are more colors, or pairs of them.
+fn has_many_colors(entry: &Entry<'_>) -> bool
+    ensures { result ≡ has_many_colors entry.now }
+{
+    let colors = natural(number_named(entry, "colors"));
+    let pairs = natural(number_named(entry, "pairs"));
+    colors > MOST_COLORS || pairs > MOST_COLORS
 }
 
 /// Whether the cursor may move in insert mode, and nothing inserts.
@@ -85,6 +97,7 @@ impl<'r, 'a, A: Allocator + Copy> Report<'r, 'a, A> {
         self.push_file("if")?;
         self.push_file("rf")?;
         self.push_if(has_vast_screen(entry), Finding::Size)?;
+        self.push_if(has_many_colors(entry), Finding::ManyColors)?;
         self.push_if(is_mir_alone(entry), Finding::LoneMir)?;
         Ok(())
     }

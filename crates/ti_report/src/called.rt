@@ -10,7 +10,7 @@ use ti_cap::CapFault;
 use ti_lint::TokenFinding;
 
 /// One finding of each word, in the order of ti-findings(7).
-static EXPLAINED: [Finding; 59] = [
+static EXPLAINED: [Finding; 61] = [
     Finding::Malformed(CapFault::UnknownEscape),
     Finding::Token(TokenFinding::StackUnderflow),
     Finding::Token(TokenFinding::TermcapParameter),
@@ -46,6 +46,7 @@ static EXPLAINED: [Finding; 59] = [
     Finding::KeyPrefix,
     Finding::RepeatedName,
     Finding::NamesControl,
+    Finding::UnfitAlias,
     Finding::RepeatedAlias,
     Finding::Runs,
     Finding::Reads,
@@ -63,6 +64,7 @@ static EXPLAINED: [Finding; 59] = [
     Finding::UnknownFunction,
     Finding::ComputedByte,
     Finding::OpenString,
+    Finding::CutString,
     Finding::NotEcma,
     Finding::ColorsStay,
     Finding::Layout,

@@ -248,6 +248,7 @@ fn finding_on(terminal: &Terminal<'_>, name: &[u8], found: &Found) -> Option<Fin
         Found::Function(function, _) => function_finding(terminal, name, function),
         Found::ComputedByte => of_stranger(terminal.untrusted, Finding::ComputedByte),
         Found::Open(state, _) => open_finding(terminal, name, *state),
+        Found::Cut(_) => of_stranger(terminal.untrusted, Finding::CutString),
         Found::NotTried => of_stranger(terminal.untrusted, Finding::NotFollowed),
     }
 }
@@ -257,6 +258,7 @@ fn place_of(found: &Found) -> Option<usize> {
     match found {
         Found::Function(_, place) => Some(*place),
         Found::Open(_, opened) => *opened,
+        Found::Cut(place) => Some(*place),
         Found::ComputedByte | Found::NotTried => None,
     }
 }

@@ -1,11 +1,11 @@
 //! The judgement of a text: what is wrong with it by how it is used, whatever its name is.
 
-ghost use Rattle.std.specs.Prelude.{◌≡◌, ◌++◌, ◌∷◌, [], IfOk, OnOk, if◌then◌else◌, option_to_list};
+ghost use Rattle.std.specs.Prelude.{◌≡◌, ◌++◌, ◌∷◌, [], IfOk, OnOk, None, if◌then◌else◌};
 ghost use Rattle.ti_report.specs.Constants.{IsTestsReport};
 ghost use Rattle.ti_report.specs.Lines.{Adds, AreReports, InTurn};
 ghost use Rattle.ti_report.specs.Remarks.{NoEvidence, placed, unplaced};
 ghost use Rattle.ti_report.specs.inner.Held.{evidence_held};
-ghost use Rattle.ti_report.specs.Texts.{AreUnused, IsCapabilityReport, IsEscapeReport, IsFindingReport, IsFindingsReport, IsJudged, IsKeyReport, IsPercentReport, IsPlacesReport, IsPlainReport, IsUnusedReport, all_findings, are_long, delay_remarks, empty_key, evidence_of as the_evidence, expected_in, half_paired, unused_finding, unused_remarks};
+ghost use Rattle.ti_report.specs.Texts.{AreUnused, IsCapabilityReport, IsEscapeReport, IsFindingReport, IsFindingsReport, IsJudged, IsKeyReport, IsPercentReport, IsPlacesReport, IsPlainReport, IsUnusedReport, all_findings, delay_remarks, empty_key, evidence_of as the_evidence, expected_in, half_paired, on_delays, unused_finding, unused_remarks};
 
 use crate::finding::Finding;
 use crate::marks::{Sought, escapes_of, places_at, places_of};
@@ -242,13 +242,9 @@ impl<A: Allocator + Copy> TextRemarks<A> {
     }
 
     /// Adds the remark on the place of a mark that is long.
-    fn push_long_delay(&mut self, found: Option<usize>) -> Result<(), AllocError>
-        ensures { OnOk result (self.new
-            ≡ self.old ++ placed (option_to_list found) Finding.LongDelay NoEvidence) }
+    fn push_long_delay(&mut self, place: usize) -> Result<(), AllocError>
+        ensures { OnOk result (self.new ≡ self.old ++ placed (place ∷ []) Finding.LongDelay NoEvidence) }
     {
-        let Some(place) = found else {
-            return Ok(());
-        };
         let mut places = Vec::new(self.allocator());
         places.push(place)?;
         self.push_at(places, Finding::LongDelay, Evidence::None)
@@ -256,21 +252,29 @@ impl<A: Allocator + Copy> TextRemarks<A> {
 
     /// Adds the remark on marks that are long together.
     fn push_long_delays(&mut self, text: &[u8]) -> Result<(), AllocError>
-        ensures { OnOk result (self.new ≡ self.old
-            ++ (if are_long text.now then unplaced Finding.LongDelays NoEvidence else [])) }
+        ensures { OnOk result (self.new ≡ self.old ++ on_delays None text.now) }
     {
-        if total_delay(text) > 327_670 {
+        if total_delay(text) > 20_000 {
             return self.push(Finding::LongDelays, Evidence::None);
         }
         Ok(())
     }
 
-    /// Adds the remarks on delays.
+    /// Adds the remark on the first mark that is long, or on all marks if they are long together.
+    fn push_delays_from(&mut self, first: Option<usize>, text: &[u8]) -> Result<(), AllocError>
+        ensures { OnOk result (self.new ≡ self.old ++ on_delays first text.now) }
+    {
+        match first {
+            Some(place) => self.push_long_delay(place),
+            None => self.push_long_delays(text),
+        }
+    }
+
+    /// Adds the remark on delays.
     fn push_delays(&mut self, text: &[u8]) -> Result<(), AllocError>
         ensures { OnOk result (self.new ≡ self.old ++ delay_remarks text.now) }
     {
-        self.push_long_delay(first_long_delay(text))?;
-        self.push_long_delays(text)?;
+        self.push_delays_from(first_long_delay(text), text)?;
         Ok(())
     }
 

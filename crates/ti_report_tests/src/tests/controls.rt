@@ -20,6 +20,7 @@ const WORDS: &[&'static str] = &[
     "unknown-function",
     "computed-byte",
     "string-open",
+    "string-cut",
     "not-tried",
 ];
 
@@ -288,6 +289,12 @@ mistakes | home=\E[H | bold=\EXa => bold string-open at 0
 mistakes | home=\E[H | bold=\E\^a => bold string-open at 0
 mistakes | home=\E[H | bold=\E]0;x^G\E]0;y => bold title OSC 0 at 6; bold string-open at 8
 mistakes | home=\E[H | dsl=\E]2;x => dsl string-open at 0
+# An escape that cuts a string off, in the entry of a stranger; the caret stands below the byte that shows it.
+mistakes | home=\E[H | dsl=\E]2;x\E[K => -
+untrusted | home=\E[H | dsl=\E]2;x\E[K => dsl string-cut at 8
+untrusted | home=\E[H | dsl=\E]2;x\E\\\E[K => -
+untrusted | home=\E[H | dsl=\E]2;x^X\E[K => -
+untrusted | home=\E[H | tsl=\E]2;%?%p1%tx%e\E\\%;\E[K => tsl string-cut at 23
 # It is a terminal of another kind.
 mistakes | bold=\E[1;2 => -
 untrusted | bold=\E[1;2 => bold string-open at 0
@@ -311,7 +318,7 @@ mistakes | tsl=%\E[6n\E]2; | fsl=^G => tsl answer CSI 6n at 5
 mistakes | tsl=\E[%i%p1%dG\E[6n\E]2; | fsl=^G => tsl answer CSI 6n at 15
 mistakes | tsl=\E]2; | fsl=%{27}%c^G | home=\E[H => -
 mistakes | tsl= | fsl=\E[6n => fsl answer CSI 6n at 4; tsl answer CSI 6n at 0
-untrusted | tsl=\E]%p1%d; | fsl=^G => tsl unknown-function OSC * at 8
+untrusted | tsl=\E]%p1%d; | fsl=^G => tsl unknown-function OSC - at 8
 untrusted | tsl=\E]0 | fsl=\E\\ => tsl computed-byte
 ";
 

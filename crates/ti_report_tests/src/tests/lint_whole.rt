@@ -62,12 +62,12 @@ const LAYOUTS: &str = r"
 @SHARED => file: entry\n  layout: the bytes are not those that tic writes\n  do: write the entry anew with ti convert\n
 # Two extended texts A and B that are `a`, of which the bytes stand once, and then `b`, which is no text. The base is 4 by the
 # sizes of the texts and by the items, and 2 by the end of the last text.
-^Z^A^B\000\000\000\000\000\000\000\000\000t\000\000\000\000\000^B\000^D\000^H\000\000\000\000\000\000\000^B\000a\000b\000A\000B\000 => file: entry\n  layout: the bytes are not those that tic writes\n  do: write the entry anew with ti convert\nfile: entry\n  base: readers differ in where the entry's own names start\n  do: write the entry anew with ti convert\n
+^Z^A^B\000\000\000\000\000\000\000\000\000t\000\000\000\000\000^B\000^D\000^H\000\000\000\000\000\000\000^B\000a\000b\000A\000B\000 => file: entry\n  layout: the bytes are not those that tic writes\n  do: write the entry anew with ti convert\nfile: entry\n  base: readers differ in where the user-defined names start\n  do: write the entry anew with ti convert\n
 # The extended texts A and B, which are `b` and `a`, the second before the first: each rule says 4.
 ^Z^A^B\000\000\000\000\000\000\000\000\000t\000\000\000\000\000^B\000^D\000^H\000^B\000\000\000\000\000^B\000a\000b\000A\000B\000 => file: entry\n  layout: the bytes are not those that tic writes\n  do: write the entry anew with ti convert\n
 # The extended text a, which is `a`, after `A`, which is no text, and so it is also the name. The base is 2 by the sizes of the
 # texts and by the items, and 4 by the end of the last text.
-^Z^A^B\000\000\000\000\000\000\000\000\000t\000\000\000\000\000^A\000^B\000^D\000^B\000\000\000A\000a\000 => file: entry\n  layout: the bytes are not those that tic writes\n  do: write the entry anew with ti convert\nfile: entry\n  base: readers differ in where the entry's own names start\n  do: write the entry anew with ti convert\n
+^Z^A^B\000\000\000\000\000\000\000\000\000t\000\000\000\000\000^A\000^B\000^D\000^B\000\000\000A\000a\000 => file: entry\n  layout: the bytes are not those that tic writes\n  do: write the entry anew with ti convert\nfile: entry\n  base: readers differ in where the user-defined names start\n  do: write the entry anew with ti convert\n
 # An extended part without a capability, whose header counts an item.
 ^Z^A^B\000\000\000\000\000\000\000\000\000t\000\000\000\000\000\000\000^A\000\000\000 => file: entry\n  layout: the bytes are not those that tic writes\n  do: write the entry anew with ti convert\n
 ";
@@ -79,9 +79,9 @@ fn layouts_that_tic_does_not_write_are_reported(rt: HostRuntime) {
 
 /// Counts of items in the header of the extended entry, which has one text and two names.
 const COUNTS: &str = r"
-0 => file: entry\n  layout: the bytes are not those that tic writes\n  do: write the entry anew with ti convert\nfile: entry\n  base: readers differ in where the entry's own names start\n  do: write the entry anew with ti convert\n
-2 => file: entry\n  layout: the bytes are not those that tic writes\n  do: write the entry anew with ti convert\nfile: entry\n  base: readers differ in where the entry's own names start\n  do: write the entry anew with ti convert\n
-4 => file: entry\n  layout: the bytes are not those that tic writes\n  do: write the entry anew with ti convert\nfile: entry\n  base: readers differ in where the entry's own names start\n  do: write the entry anew with ti convert\n
+0 => file: entry\n  layout: the bytes are not those that tic writes\n  do: write the entry anew with ti convert\nfile: entry\n  base: readers differ in where the user-defined names start\n  do: write the entry anew with ti convert\n
+2 => file: entry\n  layout: the bytes are not those that tic writes\n  do: write the entry anew with ti convert\nfile: entry\n  base: readers differ in where the user-defined names start\n  do: write the entry anew with ti convert\n
+4 => file: entry\n  layout: the bytes are not those that tic writes\n  do: write the entry anew with ti convert\nfile: entry\n  base: readers differ in where the user-defined names start\n  do: write the entry anew with ti convert\n
 ";
 
 /// The lines on the extended entry with another count of items.
@@ -105,12 +105,12 @@ const NAMES: &str = r"
 ^Z^A^H\000\000\000\000\000\000\000\000\000a|b /cd\000 => -
 ^Z^A^D\000\000\000\000\000\000\000\000\000aa^A\000 => names\n  aa\^A\n    \^\n  names-control: this is a control character\n  do: leave it out\n
 ^Z^A^D\000\000\000\000\000\000\000\000\000aa\377\000 => names\n  aa\\377\n    \^\n  names-control: from here on it is no UTF-8\n  do: write the names in UTF-8\n
-^Z^A^F\000\000\000\000\000\000\000\000\000a||bc\000 => names\n  a||bc\n    \^\n  names-control: an alias is empty\n  do: leave out the | before or after it\n
+^Z^A^F\000\000\000\000\000\000\000\000\000a||bc\000 => names\n  a||bc\n    \^\n  names-odd: an alias is empty\n  do: leave out the | before or after it\n
 ^Z^A^F\000\000\000\000\000\000\000\000\000a|a|b\000 => a\n  alias-repeated: the entry has the alias twice\n  do: leave out one of the two\n
 # The description is no alias.
 ^Z^A^F\000\000\000\000\000\000\000\000\000a|b|a\000 => -
 # One name alone is an alias.
-^Z^A^D\000\000\000\000\000\000\000\000\000a/b\000 => names\n  a/b\n   \^\n  names-control: an alias has a space or a /, so no file has its name\n  do: write an alias without it\n
+^Z^A^D\000\000\000\000\000\000\000\000\000a/b\000 => names\n  a/b\n   \^\n  names-odd: an alias has a space or a /, so no file has its name\n  do: write an alias without it\n
 ";
 
 /// The lines on the entry of a row.

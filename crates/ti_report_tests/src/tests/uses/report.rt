@@ -23,7 +23,7 @@ fn an_entry_of_termcap(rt: HostRuntime) -> Result<(), Fail> {
     let wanted = br"cup
   \E=%+ %+\s
      ^  ^
-  termcap-parameter: it pops a value, and the text has no %p
+  termcap-parameter: it pops a value, and the string has no %p
   do: push the parameter before it, such as with %p1
 cup
   \E=%+ %+\s
@@ -34,7 +34,7 @@ cup
     assert!(rt; lines.as_slice() == wanted.as_slice());
     let json = report_json(alloc, trials, options, FILE, &entry)?;
     let wanted =
-        br#"[{"finding":"termcap-parameter","fix":"push the parameter before it, such as with %p1","meaning":"it pops a value, and the text has no %p","places":[2,5],"subjects":[{"name":"cup","text":"\\E=%+ %+\\s"}]},{"finding":"stack-residue","fix":"print the value, or leave it out","meaning":"on some path the value that it pushes is left","places":[5],"subjects":[{"name":"cup","text":"\\E=%+ %+\\s"}]}]"#;
+        br#"[{"finding":"termcap-parameter","fix":"push the parameter before it, such as with %p1","meaning":"it pops a value, and the string has no %p","places":[2,5],"subjects":[{"name":"cup","text":"\\E=%+ %+\\s"}]},{"finding":"stack-residue","fix":"print the value, or leave it out","meaning":"on some path the value that it pushes is left","places":[5],"subjects":[{"name":"cup","text":"\\E=%+ %+\\s"}]}]"#;
     assert!(rt; json.text.as_slice() == wanted.as_slice());
     assert!(rt; !json.sound);
     Ok(())
