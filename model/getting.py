@@ -240,5 +240,5 @@ def traced(entry, name, tables, words, escape):
     kind, value = item_of(entry, name, tables, "trace")
     must_fit_value("trace", name, kind, value, words, tables)
     if kind != "text" or value in (ABSENT, CANCELLED):
-        raise Failed(f"trace: {shown_name(name)}: no such text")
+        raise Failed(f"trace: {shown_name(name)}: no such string")
     return 0, capability.trace(value, parameters_of(value, words), escape)

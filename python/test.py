@@ -71,7 +71,7 @@ def test_mapping() -> None:
     expect(repr(entry) == f"<Entry 'linux|Linux console', {len(entry)} capabilities>", repr(entry))
     expect(copy.deepcopy(entry) == entry and pickle.loads(pickle.dumps(entry))["cup"] == entry["cup"], "copies")
     expect(says(KeyError, entry.__getitem__, "nosuch") == repr("'nosuch': no capability has this name"), "an unknown name")
-    expect(says(KeyError, entry.__getitem__, "smcup") == repr("'smcup': the terminal has no such text"), "an absent text")
+    expect(says(KeyError, entry.__getitem__, "smcup") == repr("'smcup': the terminal has no such string"), "an absent text")
     expect(says(OSError, mogyarsu.Entry.from_path, "examples/nosuch") is not None, "no file")
 
 
@@ -88,10 +88,10 @@ def test_wrong_arguments() -> None:
         (mogyarsu.pad, [5], "text: bytes are wanted, and this is a int"),
         (mogyarsu.check, [5], "capability: bytes are wanted, and this is a int"),
         (mogyarsu.Entry(LINUX).text, [5], "name: a str or bytes are wanted, and this is a int"),
-        (mogyarsu.send, [cup, "4", 9], "parameter 1: the capability takes an int, and this is a text"),
-        (mogyarsu.expand, [b"%p1%s%p2%d", "a", b"b"], "parameter 2: the capability takes an int, and this is a text"),
-        (mogyarsu.Capability(cup), [4, "9"], "parameter 2: the capability takes an int, and this is a text"),
-        (mogyarsu.Capability(b"%p1%d"), ["abc"], "parameter 1: the capability takes an int, and this is a text"),
+        (mogyarsu.send, [cup, "4", 9], "parameter 1: the capability takes an int, and this is a string"),
+        (mogyarsu.expand, [b"%p1%s%p2%d", "a", b"b"], "parameter 2: the capability takes an int, and this is a string"),
+        (mogyarsu.Capability(cup), [4, "9"], "parameter 2: the capability takes an int, and this is a string"),
+        (mogyarsu.Capability(b"%p1%d"), ["abc"], "parameter 1: the capability takes an int, and this is a string"),
         (lambda: mogyarsu.expand(b"", variables=[0] * 52), [], "variables: Variables are wanted, and this is a list"),
         (mogyarsu.pad, [b"", "slow"], "rate: a number is wanted, and this is a str"),
     ]

@@ -12,10 +12,10 @@
     >>> move.send(4, 9), move(0, 0)
     (b'\\x1b[5;10H', b'\\x1b[1;1H')
 
-An entry is a mapping of what the terminal has: flags that are set, numbers, and texts. Names are those of terminfo(5), the short ones
-such as cup and the long ones such as cursor_address, and those that the entry gives to its extended capabilities. Refused bytes
-raise Fault, which names the argument, and has the word of ti_word (ti(3)), its sentence and the place; a name that nothing has
-raises KeyError, an argument of another type TypeError, and a number out of its range ValueError.
+An entry is a mapping of what the terminal has: booleans that are set, numeric capabilities, and strings. Names are those of
+terminfo(5), the short ones such as cup and the long ones such as cursor_address, and those that the entry gives to its user-defined
+capabilities. Refused bytes raise Fault, which names the argument, and has the word of ti_word (ti(3)), its sentence and the place; a
+name that nothing has raises KeyError, an argument of another type TypeError, and a number out of its range ValueError.
 """
 
 # Where the library is, from this folder. If it is not there, the loader looks for the last part of it. The compiled module has it inside.

@@ -13,12 +13,14 @@ from typing import Any, ClassVar, Union
 from mogyarsu import LIBRARY
 
 Value = Union[bool, int, bytes]
-"""What an entry says: a flag is a bool, a number an int, a text bytes."""
+"""What an entry says: a boolean is a bool, a numeric capability an int, a string bytes."""
 Text = Union[bytes, bytearray, memoryview]
 Parameter = Union[int, str, Text]
 
 DONE, TOO_MANY_PARAMETERS, TEXT_TOO_LONG, OUT_TOO_SMALL, BAD_PADDING, CANCELLED = 0, 201, 202, 203, 301, -2
 KINDS = ["flag", "number", "text"]
+# The same in sentences, by the words of terminfo(5).
+SAID = ["boolean", "numeric capability", "string"]
 MOST_BYTES, MOST_PARAMETERS = 32768, 9
 
 
@@ -191,7 +193,7 @@ def _bytes_of(argument: str, value: Text) -> bytes:
 
 
 def _text_of(argument: str, value: str | Text, wanted: str = "a str or bytes are") -> bytes:
-    """The bytes of a name or of a text among parameters; those of a str are UTF-8, as Python has the names of files."""
+    """The bytes of a name or of a string among parameters; those of a str are UTF-8, as Python has the names of files."""
     if isinstance(value, (bytes, bytearray, memoryview)):
         return _bytes_of(argument, value)
     if not isinstance(value, str):
@@ -208,8 +210,9 @@ def _text_of(argument: str, value: str | Text, wanted: str = "a str or bytes are
 class Entry(Mapping[str, Any]):
     """A compiled entry (term(5)), which has to be all of the bytes: a mapping of the names of what the terminal has to its values.
 
-    A flag is True, a number an int, a text bytes. Iteration goes over short names, the standard flags, numbers and texts first. A name
-    can be a long one, and bytes. The methods flag, number and text have the type of one kind, for who checks types.
+    A boolean is True, a numeric capability an int, a string bytes. Iteration goes over short names, the standard booleans, numeric
+    capabilities and strings first. A name can be a long one, and bytes. The methods flag, number and text have the type of one kind,
+    for who checks types.
     """
 
     _view: _View
@@ -268,7 +271,7 @@ class Entry(Mapping[str, Any]):
         value = self._found(name)
         held = value.held()
         if held is None:
-            raise KeyError(f"{name!r}: the terminal has no such {KINDS[value.kind]}")
+            raise KeyError(f"{name!r}: the terminal has no such {SAID[value.kind]}")
         return held
 
     def __iter__(self) -> Iterator[str]:
@@ -294,11 +297,11 @@ class Entry(Mapping[str, Any]):
     def _of_kind(self, kind: int, name: bytes | str) -> _Value:
         value = self._found(name)
         if value.kind != kind:
-            raise KeyError(f"{name!r}: this is a {KINDS[value.kind]}, and no {KINDS[kind]}")
+            raise KeyError(f"{name!r}: this is a {SAID[value.kind]}, and no {SAID[kind]}")
         return value
 
     def flag(self, name: bytes | str) -> bool:
-        """Whether a flag is set. KeyError if no flag has the name."""
+        """Whether a boolean is set. KeyError if no boolean has the name."""
         return self._of_kind(0, name).number == 1
 
     def number(self, name: bytes | str) -> int | None:
@@ -307,18 +310,18 @@ class Entry(Mapping[str, Any]):
         return number if number >= 0 else None
 
     def text(self, name: bytes | str) -> bytes | None:
-        """A text, or None if it is absent or cancelled. KeyError if no text has the name."""
+        """A string, or None if it is absent or cancelled. KeyError if no string has the name."""
         value = self._of_kind(2, name)
         return value.text.copy() if value.number == 0 else None
 
     def is_cancelled(self, kind: str, name: bytes | str) -> bool:
-        """Whether the flag, the number or the text (the kind) of a name is cancelled."""
+        """Whether the boolean, the numeric capability or the string of a name is cancelled; the kind is flag, number or text."""
         if kind not in KINDS:
             raise ValueError(f"kind: flag, number or text is wanted, and this is {kind!r}")
         return self._of_kind(KINDS.index(kind), name).number == CANCELLED
 
     def extended(self) -> dict[bytes, str]:
-        """The names of the extended capabilities, each with the kind: flag, number or text."""
+        """The names of the user-defined capabilities, each with the kind: flag, number or text."""
         named: dict[bytes, str] = {}
         name, value = _Bytes(), _Value()
         for kind, word in enumerate(KINDS):
@@ -334,7 +337,7 @@ class Entry(Mapping[str, Any]):
 @dataclass
 class Limits:
     """The most that a capability needs, over all its paths: values on the stack, conditionals that are open at once, and bytes
-    of output; and the parameters that it names, and that it takes as texts."""
+    of output; and the parameters that it names, and that it takes as strings."""
 
     depth: int
     nest: int
@@ -356,7 +359,7 @@ def _numbers(mask: int) -> frozenset[int]:
 
 
 def check(capability: Text, longest_text: int = 0) -> Limits:
-    """Checks a capability, for texts of this length among the parameters. Raises Fault if the bytes are no capability."""
+    """Checks a capability, for strings of this length among the parameters. Raises Fault if the bytes are no capability."""
     bytes_, limits = _bytes_of("capability", capability), _Limits()
     if fault := _library.ti_check(bytes_, len(bytes_), _within("longest_text", longest_text, 0, 65535), byref(limits)):
         raise Fault("capability", fault, limits.place)
@@ -364,18 +367,18 @@ def check(capability: Text, longest_text: int = 0) -> Limits:
 
 
 def _refuse_texts(capability: bytes, texts: list[int]) -> None:
-    """Raises TypeError if the capability takes one of these parameters, which are texts, only as a number."""
+    """Raises TypeError if the capability takes one of these parameters, which are strings, only as a number."""
     limits = _Limits()
     if _library.ti_check(capability, len(capability), 0, byref(limits)):
         # The fault is that of the call that follows.
         return
     for place in texts:
         if place in _numbers(limits.named) - _numbers(limits.texts):
-            raise TypeError(f"parameter {place}: the capability takes an int, and this is a text")
+            raise TypeError(f"parameter {place}: the capability takes an int, and this is a string")
 
 
 def _given(capability: bytes, parameters: tuple[Parameter, ...]) -> tuple[Array[_Parameter], list[bytes]]:
-    """The parameters for C, and the texts into which they point."""
+    """The parameters for C, and the strings into which they point."""
     given, texts = (_Parameter * len(parameters))(), []
     for place, value in enumerate(parameters, 1):
         one = given[place - 1]
@@ -415,11 +418,11 @@ def _front(out: Any, length: int) -> bytes:
 
 
 def expand(capability: Text, *parameters: Parameter, variables: Variables | None = None) -> bytes:
-    """The output of a capability for up to nine parameters, each a number of 32 bits or a text. Padding marks are still in it; what a
+    """The output of a capability for up to nine parameters, each a number of 32 bits or a string. Delays are still in it; what a
     terminal gets, send returns.
 
-    Raises Fault if the bytes are no capability, there are more parameters, or a text is longer than 32767 bytes, ValueError if a
-    number does not have 32 bits, and TypeError if a parameter is a text that the capability takes as a number. Then the variables
+    Raises Fault if the bytes are no capability, there are more parameters, or a string is longer than 32767 bytes, ValueError if a
+    number does not have 32 bits, and TypeError if a parameter is a string that the capability takes as a number. Then the variables
     are as before.
     """
     bytes_ = _bytes_of("capability", capability)
@@ -449,7 +452,7 @@ def send(
     capability: Text, *parameters: Parameter, variables: Variables | None = None, rate: int = 0, affected_lines: int = 1,
     xon: bool = False, pad_byte: int = 0,
 ) -> bytes:
-    """What a terminal gets: the output of a capability, as expand has it, with each padding mark as pad has it."""
+    """What a terminal gets: the output of a capability, as expand has it, with each delay as pad has it."""
     bytes_ = _bytes_of("capability", capability)
     given, _texts = _given(bytes_, parameters)
     terminal = _Terminal(_padding(rate, affected_lines, xon, pad_byte), _variables_for(variables))
@@ -468,8 +471,8 @@ def send(
 
 
 def pad(text: Text, rate: int = 0, affected_lines: int = 1, xon: bool = False, pad_byte: int = 0) -> bytes:
-    """The text with each padding mark, such as $<5>, as pad bytes for a line of this rate, in bytes per second. At the rate 0
-    the marks vanish. Raises Fault if the rate, the lines or the padded text are above their limits, and ValueError if a number
+    """The string with each delay, such as $<5>, as pad bytes for a line of this rate, in bytes per second. At the rate 0
+    the delays vanish. Raises Fault if the rate, the lines or the padded string are above their limits, and ValueError if a number
     does not fit C's type of it."""
     bytes_, length = _bytes_of("text", text), c_size_t()
     padding, room = _padding(rate, affected_lines, xon, pad_byte), len(bytes_)
@@ -510,8 +513,8 @@ class _Room:
 
 
 class Capability:
-    """A capability that is compiled once, for what is sent often. Called with its parameters, it returns what expand does; padding
-    marks are still in it, and send returns what a terminal gets. Raises Fault if the bytes are no capability."""
+    """A capability that is compiled once, for what is sent often. Called with its parameters, it returns what expand does; its
+    delays are still in it, and send returns what a terminal gets. Raises Fault if the bytes are no capability."""
 
     __slots__ = ("_data", "_free", "_kept")
     _data: "_Data"
@@ -526,7 +529,7 @@ class Capability:
         if 100 < fault < 200:
             raise Fault("capability", fault, place.value)
         made = super().__new__(cls)
-        # One that takes a text, has variables, or needs more than is kept, is expanded anew at each call.
+        # One that takes a string, has variables, or needs more than is kept, is expanded anew at each call.
         made._data, made._free, made._kept = kept.data, [], None if fault or kept.varied else kept
         return made
 
@@ -537,7 +540,7 @@ class Capability:
 
     @property
     def marked(self) -> bool:
-        """Whether padding marks can start in it."""
+        """Whether delays can start in it."""
         return b"$<" in self._data
 
     def __call__(self, *parameters: Parameter, variables: Variables | None = None) -> "_Data":
@@ -552,7 +555,7 @@ class Capability:
         try:
             _LAYOUTS[count].pack_into(room.numbers, 0, *parameters)
         except (StructError, IndexError):
-            # There is a text, or what is no parameter, or too many: this finds out.
+            # There is a string, or what is no parameter, or too many: this finds out.
             return expand(self._data, *parameters)
         _expand_kept(*room.arguments[count])
         output: _Data = room.out[: room.written.value]
@@ -563,7 +566,7 @@ class Capability:
         self, *parameters: Parameter, variables: Variables | None = None, rate: int = 0, affected_lines: int = 1, xon: bool = False,
         pad_byte: int = 0,
     ) -> "_Data":
-        """What a terminal gets: the output, as a call has it, with each padding mark as pad has it."""
+        """What a terminal gets: the output, as a call has it, with each delay as pad has it."""
         return send(self._data, *parameters, variables=variables, rate=rate, affected_lines=affected_lines, xon=xon, pad_byte=pad_byte)
 
     def __repr__(self) -> str:

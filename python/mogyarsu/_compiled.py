@@ -21,6 +21,8 @@ if TYPE_CHECKING:
     from mogyarsu import Text
 
 KINDS = ["flag", "number", "text"]
+# The same in sentences, by the words of terminfo(5).
+SAID = ["boolean", "numeric capability", "string"]
 CANCELLED, MOST_BYTES = -2, 32768
 
 
@@ -54,7 +56,7 @@ class _Record:
 
 class Limits(_Record):
     """The most that a capability needs, over all its paths: values on the stack, conditionals that are open at once, and bytes
-    of output; and the parameters that it names, and that it takes as texts."""
+    of output; and the parameters that it names, and that it takes as strings."""
 
     __match_args__ = ("depth", "nest", "bound", "named", "texts")
 
@@ -80,7 +82,7 @@ def _numbers(mask: int) -> frozenset[int]:
 
 
 def check(capability: Text, longest_text: int = 0) -> Limits:
-    """Checks a capability, for texts of this length among the parameters. Raises Fault if the bytes are no capability."""
+    """Checks a capability, for strings of this length among the parameters. Raises Fault if the bytes are no capability."""
     depth, nest, bound, named, texts = _ti.check(capability, longest_text)
     return Limits(depth, nest, bound, _numbers(named), _numbers(texts))
 
@@ -88,8 +90,9 @@ def check(capability: Text, longest_text: int = 0) -> Limits:
 class Entry(_ti.View, Mapping):  # type: ignore[type-arg]
     """A compiled entry (term(5)), which has to be all of the bytes: a mapping of the names of what the terminal has to its values.
 
-    A flag is True, a number an int, a text bytes. Iteration goes over short names, the standard flags, numbers and texts first. A name
-    can be a long one, and bytes. The methods flag, number and text have the type of one kind, for who checks types.
+    A boolean is True, a numeric capability an int, a string bytes. Iteration goes over short names, the standard booleans, numeric
+    capabilities and strings first. A name can be a long one, and bytes. The methods flag, number and text have the type of one kind,
+    for who checks types.
     """
 
     _items: dict[str, bool | int | bytes] | None = None
@@ -124,14 +127,14 @@ class Entry(_ti.View, Mapping):  # type: ignore[type-arg]
         return Entry, (self._data,)
 
     def _of_kind(self, kind: int, name: bytes | str) -> tuple[int, bytes | None]:
-        """The number and the text of the capability with a name. KeyError if it is of another kind."""
+        """The number and the string of the capability with a name. KeyError if it is of another kind."""
         found, number, text = self._found(name)
         if found != kind:
-            raise KeyError(f"{name!r}: this is a {KINDS[found]}, and no {KINDS[kind]}")
+            raise KeyError(f"{name!r}: this is a {SAID[found]}, and no {SAID[kind]}")
         return number, text
 
     def flag(self, name: bytes | str) -> bool:
-        """Whether a flag is set. KeyError if no flag has the name."""
+        """Whether a boolean is set. KeyError if no boolean has the name."""
         return self._of_kind(0, name)[0] == 1
 
     def number(self, name: bytes | str) -> int | None:
@@ -140,17 +143,17 @@ class Entry(_ti.View, Mapping):  # type: ignore[type-arg]
         return number if number >= 0 else None
 
     def text(self, name: bytes | str) -> bytes | None:
-        """A text, or None if it is absent or cancelled. KeyError if no text has the name."""
+        """A string, or None if it is absent or cancelled. KeyError if no string has the name."""
         return self._of_kind(2, name)[1]
 
     def is_cancelled(self, kind: str, name: bytes | str) -> bool:
-        """Whether the flag, the number or the text (the kind) of a name is cancelled."""
+        """Whether the boolean, the numeric capability or the string of a name is cancelled; the kind is flag, number or text."""
         if kind not in KINDS:
             raise ValueError(f"kind: flag, number or text is wanted, and this is {kind!r}")
         return self._of_kind(KINDS.index(kind), name)[0] == CANCELLED
 
     def extended(self) -> dict[bytes, str]:
-        """The names of the extended capabilities, each with the kind: flag, number or text."""
+        """The names of the user-defined capabilities, each with the kind: flag, number or text."""
         named: dict[bytes, str] = {}
         for kind, word in enumerate(KINDS):
             for name in self._extended(kind):

@@ -59,7 +59,7 @@ static PyObject *bytes_of(const char *argument, PyObject *value) {
     return NULL;
 }
 
-/* The bytes of a name or of a text among parameters; those of a str are UTF-8, as Python has the names of files. */
+/* The bytes of a name or of a string among parameters; those of a str are UTF-8, as Python has the names of files. */
 static PyObject *text_of(const char *argument, PyObject *value, const char *wanted) {
     PyObject *bytes;
     if (PyBytes_Check(value) || PyByteArray_Check(value) || PyMemoryView_Check(value)) return bytes_of(argument, value);
@@ -142,7 +142,7 @@ static int take_one(struct given *given, Py_ssize_t place, PyObject *value) {
     return 0;
 }
 
-/* Raises TypeError if the capability takes a text only as a number. A fault of it is that of the call that follows. */
+/* Raises TypeError if the capability takes a string only as a number. A fault of it is that of the call that follows. */
 static int refuse_texts(PyObject *capability, const struct given *given) {
     ti_limits limits;
     size_t texts = 0;
@@ -150,7 +150,7 @@ static int refuse_texts(PyObject *capability, const struct given *given) {
     if (texts == 0 || ti_check(start_of(capability), length_of(capability), 0, &limits) != TI_DONE) return 0;
     for (size_t i = 0; i < given->count && i < TI_MOST_PARAMETERS; i++)
         if (given->held[i] != NULL && (limits.named & ~limits.texts) >> i & 1) {
-            PyErr_Format(PyExc_TypeError, "parameter %zd: the capability takes an int, and this is a text", (Py_ssize_t)i + 1);
+            PyErr_Format(PyExc_TypeError, "parameter %zd: the capability takes an int, and this is a string", (Py_ssize_t)i + 1);
             return -1;
         }
     return 0;
@@ -419,7 +419,7 @@ static PyObject *check(PyObject *module, PyObject *args) {
 
 /* ---- a capability that is kept */
 
-/* One that takes a text or needs more than is kept is expanded from its bytes at each call. */
+/* One that takes a string or needs more than is kept is expanded from its bytes at each call. */
 typedef struct {
     PyObject_HEAD
     ti_kept kept;
@@ -570,21 +570,21 @@ static PyObject *capability_reduced(PyObject *self, PyObject *unused) {
 
 static PyMethodDef capability_methods[] = {
     {"send", (PyCFunction)(void (*)(void))capability_send, METH_FASTCALL | METH_KEYWORDS,
-     "What a terminal gets: the output, as a call has it, with each padding mark as pad has it."},
+     "What a terminal gets: the output, as a call has it, with each delay as pad has it."},
     {"__reduce__", capability_reduced, METH_NOARGS, NULL},
     {NULL, NULL, 0, NULL},
 };
 
 static PyGetSetDef capability_members[] = {
     {"bytes", capability_bytes, NULL, "The capability.", NULL},
-    {"marked", capability_marked, NULL, "Whether padding marks can start in it.", NULL},
+    {"marked", capability_marked, NULL, "Whether delays can start in it.", NULL},
     {NULL, NULL, NULL, NULL, NULL},
 };
 
 static PyType_Slot capability_slots[] = {
     {Py_tp_doc,
-     "A capability that is compiled once, for what is sent often. Called with its parameters, it returns what expand does; padding\n"
-     "marks are still in it, and send returns what a terminal gets. Raises Fault if the bytes are no capability."},
+     "A capability that is compiled once, for what is sent often. Called with its parameters, it returns what expand does; its\n"
+     "delays are still in it, and send returns what a terminal gets. Raises Fault if the bytes are no capability."},
     {Py_tp_new, capability_new},
     {Py_tp_dealloc, capability_free},
     {Py_tp_call, capability_call},
@@ -667,7 +667,7 @@ static int find(view_object *self, PyObject *name, ti_value *value) {
 }
 
 static PyObject *view_item(PyObject *self, PyObject *name) {
-    static const char *const kinds[] = {"flag", "number", "text"};
+    static const char *const kinds[] = {"boolean", "numeric capability", "string"};
     ti_value value;
     if (find((view_object *)self, name, &value)) return NULL;
     if (is_there(&value)) return held(&value);
@@ -817,16 +817,16 @@ static PyObject *take_classes(PyObject *module, PyObject *args) {
 
 static PyMethodDef functions[] = {
     {"expand", (PyCFunction)(void (*)(void))expand, METH_FASTCALL | METH_KEYWORDS,
-     "The output of a capability for up to nine parameters, each a number of 32 bits or a text. Padding marks are still in it; what a\n"
+     "The output of a capability for up to nine parameters, each a number of 32 bits or a string. Delays are still in it; what a\n"
      "terminal gets, send returns.\n\n"
-     "Raises Fault if the bytes are no capability, there are more parameters, or a text is longer than 32767 bytes, ValueError if a\n"
-     "number does not have 32 bits, and TypeError if a parameter is a text that the capability takes as a number. Then the variables\n"
+     "Raises Fault if the bytes are no capability, there are more parameters, or a string is longer than 32767 bytes, ValueError if a\n"
+     "number does not have 32 bits, and TypeError if a parameter is a string that the capability takes as a number. Then the variables\n"
      "are as before."},
     {"send", (PyCFunction)(void (*)(void))send, METH_FASTCALL | METH_KEYWORDS,
-     "What a terminal gets: the output of a capability, as expand has it, with each padding mark as pad has it."},
+     "What a terminal gets: the output of a capability, as expand has it, with each delay as pad has it."},
     {"pad", (PyCFunction)(void (*)(void))pad, METH_VARARGS | METH_KEYWORDS,
-     "The text with each padding mark, such as $<5>, as pad bytes for a line of this rate, in bytes per second. At the rate 0\n"
-     "the marks vanish. Raises Fault if the rate, the lines or the padded text are above their limits, and ValueError if a number\n"
+     "The string with each delay, such as $<5>, as pad bytes for a line of this rate, in bytes per second. At the rate 0\n"
+     "the delays vanish. Raises Fault if the rate, the lines or the padded string are above their limits, and ValueError if a number\n"
      "does not fit C's type of it."},
     {"check", check, METH_VARARGS, NULL},
     {"word", word, METH_VARARGS, NULL},

@@ -1,13 +1,14 @@
 //! The texts of help. A line on an argument has at most 58 characters, so that help fits into 80 columns.
 
 pub(crate) const PARAMS: &str = "Parameters: n:NUMBER (-2147483648 to 2147483647) or
-s:TEXT; at most nine, a missing one is the number 0";
+s:STRING; at most nine, a missing one is the number 0";
 
-pub(crate) const TRACE_PARAMS: &str = "Parameters: n:NUMBER or s:TEXT, or with --of 5 or red;
+pub(crate) const TRACE_PARAMS: &str = "Parameters: n:NUMBER or s:STRING, or with --of 5 or red;
 at most nine, a missing one is the number 0";
 
 pub(crate) const ANY_PARAMS: &str = "Parameters, such as 5 or red; n:5 and s:5 force the type;
-with none the string is padded, but not expanded";
+without parameters the string is padded, but its % escapes
+are left alone";
 
 pub(crate) const FILES: &str = "Compiled entries, or directories of them; - or nothing
 means standard input";
@@ -41,8 +42,8 @@ are in the notation of terminfo(5)";
 pub(crate) const COLOR: &str = "Use color: always, never or auto; auto, the default, means
 only at a terminal, and only if NO_COLOR is not set";
 
-pub(crate) const ALL_NAMES: &str = "Use the names of all 497 capabilities, in place of
-the 114 common ones";
+pub(crate) const ALL_NAMES: &str = "Name all 497 capabilities (default: 114; the others print
+as #N)";
 
 pub(crate) const FAULTS: &str = "Write only the strings with a fault, and leave out u6 and
 u8, which are patterns of input";
@@ -50,11 +51,11 @@ u8, which are patterns of input";
 pub(crate) const ALL: &str = "Report also findings that may be intended, such as two
 keys that send the same string";
 
-pub(crate) const UNTRUSTED: &str = "Report all that strings may do beside what is harmless,
-as for an entry from a stranger";
+pub(crate) const UNTRUSTED: &str = "For entries that you don't trust: also report all that
+strings can send beside the table of harmless functions";
 
-pub(crate) const SUMMARY: &str = "Write what was looked at on standard error, as is done if
-that is a terminal";
+pub(crate) const SUMMARY: &str = "Print a summary on standard error (the default at a
+terminal)";
 
 pub(crate) const EXPLAIN: &str = "Explain the findings with these words, in place of reading
 files, or list all words";
@@ -81,8 +82,8 @@ pub(crate) const FORCE: &str = "Write the entry even to a terminal";
 /// The exit statuses in help, and examples.
 pub(crate) const STATUSES: &str = "Status:
   0  done
-  1  check found a fault, lint a mistake, diff a difference,
-     or get a boolean that is not set
+  1  a fault (check), a mistake (lint), a difference (diff),
+     or a boolean that is not set (get)
   2  usage error
   3  not a valid entry
   4  invalid or missing capability

@@ -123,7 +123,7 @@ action_line (Entry (of_entry.Get g)) near fault.NoSuchName =
 action_line (Entry (of_entry.Get g)) near (fault.OnlyNumbers which) =
     codes "get: " ++ shown_name g.name.now ++ takes_numbers_line which
 action_line (Entry (of_entry.Trace t)) near fault.NoSuchText =
-    codes "trace: " ++ shown_name t.name.now ++ codes ": no such text\n"
+    codes "trace: " ++ shown_name t.name.now ++ codes ": no such string\n"
 action_line (Entry (of_entry.Trace t)) near fault.NoSuchName =
     codes "trace: " ++ shown_name t.name.now ++ no_name_line near
 action_line (Entry (of_entry.Trace t)) near (fault.OnlyNumbers which) =

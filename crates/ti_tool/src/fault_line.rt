@@ -193,7 +193,7 @@ pub fn action_line(action: &EntryAction<'_>, near: &[&str], fault: &ToolFault) -
         }
         (EntryAction::Trace(of), ToolFault::NoSuchText) => {
             let shown = shown_name(of.name);
-            line_of(&[b"trace: ", shown.as_slice(), b": no such text\n"])
+            line_of(&[b"trace: ", shown.as_slice(), b": no such string\n"])
         }
         (EntryAction::Trace(of), ToolFault::NoSuchName) => {
             no_name_line(b"trace: ", of.name, near)

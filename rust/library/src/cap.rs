@@ -1,5 +1,5 @@
-//! The 497 capabilities of `term.h` of ncurses 6.4, each as a value of its own that knows what the entry has there: a flag,
-//! a number or a text.
+//! The 497 capabilities of `term.h` of ncurses 6.4, each as a value of its own that knows what the entry has there: a boolean,
+//! a number or a string.
 //!
 //! A type has the long name of terminfo(5) in Rust's spelling: `cursor_address`, in short `cup`, is [`CursorAddress`].
 //!
@@ -31,7 +31,7 @@ pub trait Standard {
     const LONG: &'static str;
     /// What the entry can say of it, such as that it is cancelled.
     type Mark<'a>;
-    /// What a caller mostly needs of that: `bool` of a flag, the value of a number or a text if there is one.
+    /// What a caller mostly needs of that: `bool` of a boolean, the value of a number or a string if there is one.
     type Value<'a>;
     /// What an entry says of it.
     fn mark<'a>(entry: &Entry<'a>) -> Self::Mark<'a>;

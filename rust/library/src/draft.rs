@@ -9,7 +9,7 @@ use crate::shown::Shown;
 use alloc::vec::Vec;
 use core::fmt;
 
-/// An entry that is being made. It lends its names and texts.
+/// An entry that is being made. It lends its names and strings.
 ///
 /// ```
 /// use ti_terminfo::{Draft, Entry, Width, cap};
@@ -67,26 +67,26 @@ impl<'a> Draft<'a> {
         self
     }
 
-    /// Sets a capability of `term.h`: a flag by `bool`, a number by `i32`, a text by its bytes, or any of them by a mark
+    /// Sets a capability of `term.h`: a boolean by `bool`, a number by `i32`, a string by its bytes, or any of them by a mark
     /// such as [`Text::Cancelled`].
     pub fn set<S: Standard>(&mut self, _capability: S, mark: impl Into<S::Mark<'a>>) -> &mut Self {
         S::put(self, mark.into());
         self
     }
 
-    /// Adds an extended flag after the others.
+    /// Adds a user-defined boolean after the others.
     pub fn add_flag(&mut self, name: &'a (impl AsRef<[u8]> + ?Sized), flag: impl Into<Flag>) -> &mut Self {
         self.extended_flags.push((name.as_ref(), flag.into()));
         self
     }
 
-    /// Adds an extended number after the others.
+    /// Adds a user-defined number after the others.
     pub fn add_number(&mut self, name: &'a (impl AsRef<[u8]> + ?Sized), number: impl Into<Number>) -> &mut Self {
         self.extended_numbers.push((name.as_ref(), number.into()));
         self
     }
 
-    /// Adds an extended text after the others.
+    /// Adds a user-defined string after the others.
     pub fn add_text(&mut self, name: &'a (impl AsRef<[u8]> + ?Sized), text: impl Into<Text<'a>>) -> &mut Self {
         self.extended_texts.push((name.as_ref(), text.into()));
         self

@@ -10,7 +10,7 @@ use core::fmt;
 /// A compiled entry (term(5)). What it gives is lent from the bytes that it was read from.
 ///
 /// A name is a short or a long one of `term.h`, or one that the entry has itself; a standard name comes first. A standard
-/// name is found by a hash and a comparison with two names at most, and one of the entry's own is looked for among these;
+/// name is found by a hash and a comparison with two names at most, and a user-defined one is looked for among these;
 /// [`Entry::get`] has an index in place of that.
 #[derive(Clone)]
 pub struct Entry<'a> {
@@ -67,7 +67,7 @@ impl<'a> Entry<'a> {
         self.inner.width()
     }
 
-    /// What the entry says of a capability of `term.h`: of a flag `bool`, of a number or a text its value if it has one.
+    /// What the entry says of a capability of `term.h`: of a boolean `bool`, of a number or a string its value if it has one.
     /// See [`cap`](crate::cap) for an example.
     pub fn get<S: Standard>(&self, capability: S) -> S::Value<'a> {
         S::value(self.mark(capability))
@@ -79,7 +79,7 @@ impl<'a> Entry<'a> {
     }
 
     /// What the entry says of the capability with a name, of whatever kind: a short or long name of `term.h`, else the first of
-    /// the entry's own that is equal. `None` means that nothing has the name, neither `term.h` nor the entry; of a capability of
+    /// the user-defined ones that is equal. `None` means that nothing has the name, neither `term.h` nor the entry; of a capability of
     /// `term.h` that the terminal lacks the result is an absent item.
     ///
     /// ```
@@ -98,7 +98,7 @@ impl<'a> Entry<'a> {
         Some(self.inner.item_at(self.inner.position(name.as_bytes())?))
     }
 
-    /// Whether the terminal has the flag of a name.
+    /// Whether the terminal has the boolean of a name.
     ///
     /// ```
     /// # fn main() -> Result<(), Box<dyn std::error::Error>> {
@@ -140,7 +140,7 @@ impl<'a> Entry<'a> {
         extended.number(extended.find_of(Kind::Number, name.as_bytes())?).value()
     }
 
-    /// The text of a name, if the entry gives one. With parameters it is a [`Capability`](crate::Capability).
+    /// The string of a name, if the entry gives one. With parameters it is a [`Capability`](crate::Capability).
     ///
     /// ```
     /// # fn main() -> Result<(), Box<dyn std::error::Error>> {
@@ -160,7 +160,7 @@ impl<'a> Entry<'a> {
         extended.text(extended.find_text(name.as_bytes())?).value()
     }
 
-    /// All that the entry says something of, in the order in which `ti show` lists it: the flags, numbers and texts of `term.h`, and
+    /// All that the entry says something of, in the order in which `ti show` lists it: the booleans, numbers and strings of `term.h`, and
     /// then those that the entry names itself.
     ///
     /// ```
@@ -181,7 +181,7 @@ impl<'a> Entry<'a> {
         })
     }
 
-    /// The flags that the entry says something of, those of standard capabilities first. `No` is not among them, as it says
+    /// The booleans that the entry says something of, those of standard capabilities first. `No` is not among them, as it says
     /// nothing.
     ///
     /// ```
@@ -218,7 +218,7 @@ impl<'a> Entry<'a> {
             .filter(|(_, number)| *number != Number::Absent)
     }
 
-    /// The texts that the entry says something of, those of standard capabilities first; absent ones are not among them.
+    /// The strings that the entry says something of, those of standard capabilities first; absent ones are not among them.
     ///
     /// ```
     /// use ti_terminfo::Capability;
@@ -240,7 +240,7 @@ impl<'a> Entry<'a> {
             .filter(|(_, text)| *text != Text::Absent)
     }
 
-    /// The flag at an index, for the constants of `cap`.
+    /// The boolean at an index, for the constants of `cap`.
     pub(crate) fn flag_at(&self, index: usize) -> Flag {
         self.inner.flag(index)
     }
@@ -250,7 +250,7 @@ impl<'a> Entry<'a> {
         self.inner.number(index)
     }
 
-    /// The text at an index.
+    /// The string at an index.
     pub(crate) fn text_at(&self, index: usize) -> Text<'a> {
         self.inner.text(index)
     }

@@ -21,12 +21,12 @@ pub enum ExpandError {
         /// How many are given.
         given: usize,
     },
-    /// The text of this parameter, counted from 1, has more than [`MOST_TEXT_BYTES`](crate::limits::MOST_TEXT_BYTES).
+    /// The string of this parameter, counted from 1, has more than [`MOST_TEXT_BYTES`](crate::limits::MOST_TEXT_BYTES).
     TextTooLong {
         /// The lowest such parameter.
         parameter: u8,
     },
-    /// The slice is shorter than what the capability can write for these parameters: its bound for the longest text.
+    /// The slice is shorter than what the capability can write for these parameters: its bound for the longest string.
     OutTooSmall {
         /// The bound.
         need: u64,
@@ -123,7 +123,7 @@ pub fn expand_to(
 
 /// Writes what a capability writes for at most nine parameters to the front of a slice, and returns how many bytes that are,
 /// with how many tokens ran. It takes no memory. The slice is long enough if it has as many bytes as [`Capability::bound`]
-/// says for the longest text among the parameters.
+/// says for the longest string among the parameters.
 ///
 /// ```
 /// use ti_terminfo::{Capability, ExpandError, Vars, expand_into};

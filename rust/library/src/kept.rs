@@ -30,7 +30,7 @@ impl<'a> Kept<'a> {
     ///
     /// # Errors
     ///
-    /// `Refused` if they are no capability. `DoesNotFit` if it takes a text, or needs more than 8 values on its stack or more
+    /// `Refused` if they are no capability. `DoesNotFit` if it takes a string, or needs more than 8 values on its stack or more
     /// than 96 steps: expand it with [`expand_into`](crate::expand_into).
     pub fn compile(bytes: &'a [u8]) -> Result<Self, CompileError> {
         crate::made::kept::Kept::compile(bytes).map(Kept)

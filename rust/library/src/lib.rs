@@ -43,7 +43,7 @@ pub use expand::{ExpandError, expand_into};
 pub use kept::Kept;
 pub use kit::AllocError;
 pub use message::Message;
-/// A text of an entry that is parsed, with its exact limits over all parameters.
+/// A string of an entry that is parsed, with its exact limits over all parameters.
 ///
 /// ```
 /// use ti_terminfo::{Capability, ParseFault};

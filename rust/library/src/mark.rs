@@ -30,7 +30,7 @@ impl<'a> Text<'a> {
 }
 
 impl Item<'_> {
-    /// Whether it is a flag that the terminal has.
+    /// Whether it is a boolean that the terminal has.
     pub fn is_set(self) -> bool {
         matches!(self, Item::Flag(Flag::Yes))
     }

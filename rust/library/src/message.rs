@@ -55,10 +55,10 @@ assert_eq!(fault.to_string(), \"BadParameter at 2\");
 assert_eq!(fault.message().to_string(), \"at byte 2: %p is followed by no digit of 1 to 9\");",
     CompileError: "let fault = ti_terminfo::Kept::compile(b\"%p1%s\").unwrap_err();
 assert_eq!(fault.to_string(), \"DoesNotFit\");
-assert_eq!(fault.message().to_string(), \"the capability takes a text, or needs more steps or values than are kept\");",
+assert_eq!(fault.message().to_string(), \"the capability takes a string, or needs more steps or values than are kept\");",
     EncodeError: "let fault = ti_terminfo::EncodeError::NulInText;
 assert_eq!(fault.to_string(), \"NulInText\");
-assert_eq!(fault.message().to_string(), \"a text holds a NUL\");",
+assert_eq!(fault.message().to_string(), \"a string holds a NUL\");",
     ExpandError: "let fault = ti_terminfo::ExpandError::OutTooSmall { need: 26 };
 assert_eq!(fault.to_string(), \"OutTooSmall 26\");
 assert_eq!(fault.message().to_string(), \"the slice has less than the 26 bytes that may be written\");",
@@ -67,7 +67,7 @@ assert_eq!(fault.to_string(), \"Memory\");
 assert_eq!(fault.message().to_string(), \"memory was refused\");",
     PadIntoError: "let fault = ti_terminfo::PadIntoError::OutTooSmall { need: 9 };
 assert_eq!(fault.to_string(), \"OutTooSmall 9\");
-assert_eq!(fault.message().to_string(), \"the slice has less than the 9 bytes of the padded text\");",
+assert_eq!(fault.message().to_string(), \"the slice has less than the 9 bytes of the padded string\");",
 }
 
 const NO_MEMORY: &str = "memory was refused";
@@ -82,13 +82,13 @@ impl Says for ReadError {
             ReadFault::ExtendedTooBig => return f.write_str("with its extended part the entry has more than 32768 bytes"),
             ReadFault::BadHeader => "a size or a count of the header is negative",
             ReadFault::BadNames => "the names are empty, hold a NUL or do not end with one",
-            ReadFault::BadFlag => "a flag is none of 0, 1, 254 and 255",
+            ReadFault::BadFlag => "a boolean is none of 0, 1, 254 and 255",
             ReadFault::BadPad => "a byte between two sections is not 0",
             ReadFault::BadNumber => "a number is below -2",
-            ReadFault::BadOffset => "the offset of a text is not within the table of texts",
-            ReadFault::Unterminated => "a text or an extended name has no NUL at its end",
+            ReadFault::BadOffset => "the offset of a string is not within the string table",
+            ReadFault::Unterminated => "a string or a user-defined name has no NUL at its end",
             ReadFault::BadExtendedHeader => "a size or a count of the extended header is negative",
-            ReadFault::BadExtendedName => "the offset of an extended name is not within its table",
+            ReadFault::BadExtendedName => "the offset of a user-defined name is not within its table",
             ReadFault::Trailing => "bytes follow the end of the entry",
         };
         write!(f, "at byte {place}: {what}")
@@ -121,7 +121,7 @@ impl Says for CompileError {
         match self {
             CompileError::Refused(refused) => refused.say(f),
             CompileError::DoesNotFit => {
-                f.write_str("the capability takes a text, or needs more steps or values than are kept")
+                f.write_str("the capability takes a string, or needs more steps or values than are kept")
             }
         }
     }
@@ -130,8 +130,8 @@ impl Says for CompileError {
 impl Says for EncodeError {
     fn say(&self, f: &mut fmt::Formatter<'_>) -> fmt::Result {
         f.write_str(match self {
-            EncodeError::BadName => "the names are empty or hold a NUL, or an extended name holds one",
-            EncodeError::NulInText => "a text holds a NUL",
+            EncodeError::BadName => "the names are empty or hold a NUL, or a user-defined name holds one",
+            EncodeError::NulInText => "a string holds a NUL",
             EncodeError::NumberOutOfRange => "a number is negative, or above 32767 without the wide format",
             EncodeError::TooManyOrLong => "the entry would have more than 32768 bytes",
             EncodeError::Memory => NO_MEMORY,
@@ -143,7 +143,7 @@ impl Says for ExpandError {
     fn say(&self, f: &mut fmt::Formatter<'_>) -> fmt::Result {
         match self {
             ExpandError::TooManyParameters { given } => write!(f, "{given} parameters are given, and at most nine are taken"),
-            ExpandError::TextTooLong { parameter } => write!(f, "the text of parameter {parameter} has more than 32767 bytes"),
+            ExpandError::TextTooLong { parameter } => write!(f, "the string of parameter {parameter} has more than 32767 bytes"),
             ExpandError::OutTooSmall { need } => write!(f, "the slice has less than the {need} bytes that may be written"),
             ExpandError::Memory => f.write_str(NO_MEMORY),
         }
@@ -153,7 +153,7 @@ impl Says for ExpandError {
 impl Says for PadError {
     fn say(&self, f: &mut fmt::Formatter<'_>) -> fmt::Result {
         match self {
-            PadError::TooMuch { need } => write!(f, "the padded text would have {need} bytes, and at most 67108864 are made"),
+            PadError::TooMuch { need } => write!(f, "the padded string would have {need} bytes, and at most 67108864 are made"),
             PadError::Memory => f.write_str(NO_MEMORY),
         }
     }
@@ -163,7 +163,7 @@ impl Says for PadIntoError {
     fn say(&self, f: &mut fmt::Formatter<'_>) -> fmt::Result {
         match self {
             PadIntoError::TooMuch { need } => PadError::TooMuch { need: *need }.say(f),
-            PadIntoError::OutTooSmall { need } => write!(f, "the slice has less than the {need} bytes of the padded text"),
+            PadIntoError::OutTooSmall { need } => write!(f, "the slice has less than the {need} bytes of the padded string"),
         }
     }
 }

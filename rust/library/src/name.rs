@@ -8,11 +8,11 @@ use core::fmt;
 
 /// What a capability is called.
 ///
-/// It prints as `ti` lists it: the short name, `#` and the index if `term.h` has no name there, or the name of an extended
+/// It prints as `ti` lists it: the short name, `#` and the index if `term.h` has no name there, or the name of a user-defined
 /// capability, in which bytes that can't be printed are escaped.
 #[derive(Clone, Copy, PartialEq, Eq)]
 pub enum Name<'a> {
-    /// The capability of a kind at an index, of which `term.h` names the first 44 flags, 39 numbers and 414 texts.
+    /// The capability of a kind at an index, of which `term.h` names the first 44 booleans, 39 numbers and 414 strings.
     Standard {
         /// What it is.
         kind: Kind,
@@ -90,7 +90,7 @@ impl fmt::Debug for Name<'_> {
     }
 }
 
-/// A text in the notation of terminfo(5), which shows control characters and is printable.
+/// A string in the notation of terminfo(5), which shows control characters and is printable.
 ///
 /// ```
 /// use ti_terminfo::notation;

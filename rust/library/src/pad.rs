@@ -4,7 +4,7 @@
 use crate::made::pad::PadError;
 use crate::made::pad::Padding;
 
-/// The text with the pad bytes that its marks ask for in their place.
+/// The string with the pad bytes that its delays ask for in their place.
 ///
 /// ```
 /// use ti_terminfo::{Padding, pad};
@@ -21,13 +21,13 @@ use crate::made::pad::Padding;
 ///
 /// # Errors
 ///
-/// The text would have more than [`MOST_PADDED_BYTES`](crate::limits::MOST_PADDED_BYTES), or memory was refused.
+/// The string would have more than [`MOST_PADDED_BYTES`](crate::limits::MOST_PADDED_BYTES), or memory was refused.
 #[cfg(feature = "alloc")]
 pub fn pad(text: &[u8], padding: &Padding) -> Result<alloc::vec::Vec<u8>, PadError> {
     Ok(crate::made::pad::pad(crate::kit::Global, text, padding)?.into_items())
 }
 
-/// Writes the text with the pad bytes that its marks ask for to a sink, all at once.
+/// Writes the string with the pad bytes that its delays ask for to a sink, all at once.
 ///
 /// ```
 /// use ti_terminfo::{Padding, pad_to};

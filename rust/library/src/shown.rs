@@ -6,7 +6,7 @@ use crate::made::expand::Value;
 use crate::made::words::Text;
 use core::fmt;
 
-/// The bytes whose notation is made in a room of its own; without `alloc` no more of a text is printed.
+/// The bytes whose notation is made in a room of its own; without `alloc` no more of a string is printed.
 const FEW: usize = 64;
 
 /// Bytes, printed in quotation marks.

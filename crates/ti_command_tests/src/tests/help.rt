@@ -14,8 +14,8 @@ ti --help | show | check | lint | get | diff | expand | convert | cap | trace | 
 ti -h | Usage: ti <COMMAND> => -
 ti help | Usage: ti <COMMAND> => -
 ti help show | Usage: ti show [OPTIONS] [FILE]... | --escape | --all-names | \\E[H => -
-ti cap --help | --source | --hex | --escape | [PARAM]... | n:NUMBER | s:TEXT | Example => -
-ti trace --help | --source | --of <NAME> | --entry <FILE> | --escape | [PARAM]... | n:NUMBER | s:TEXT | Example => -
+ti cap --help | --source | --hex | --escape | [PARAM]... | n:NUMBER | s:STRING | Example => -
+ti trace --help | --source | --of <NAME> | --entry <FILE> | --escape | [PARAM]... | n:NUMBER | s:STRING | Example => -
 ti expand --help | <NAME> | --rate <N> | 1000000 | --lines <N> | 65535 | --xon | Example => -
 ti check --help | status 1 | Example => -
 ti lint --help | Usage: ti lint [OPTIONS] [FILE]... | ti lint --explain [WORD]... | --explain | --all | --summary | Example => -

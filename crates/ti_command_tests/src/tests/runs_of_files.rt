@@ -227,8 +227,8 @@ ti check none\E cut small | file => 5 out small: text bel ok depth 0 bound 1\n e
 ti convert cut | file => 3 err cut: entry: Truncated at 5\n
 ti get cols --entry small | file => 0 out 80\n
 ti get cup --entry small | file => 4 err small: get: cup: absent\n
-ti trace --of cup --entry small | file => 4 err small: trace: cup: no such text\n
-ti trace --of cup --entry small | terminal => 4 err small: trace: cup: no such text\n
+ti trace --of cup --entry small | file => 4 err small: trace: cup: no such string\n
+ti trace --of cup --entry small | terminal => 4 err small: trace: cup: no such string\n
 ti expand bel -x --entry=small | file => 0 out 07\n
 "##;
 
