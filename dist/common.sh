@@ -62,6 +62,7 @@ look_at() {
 look_at_page() {
     look_at ti
     folders+=(page/engine page/entries page/make page/source rust/library rust/make rust/targets.py examples/linux docs/ti-faults.7 docs/ti-findings.7)
+    [ ! -f "$root/LICENSE" ] || folders+=(LICENSE)
 }
 
 # The sum over the sources of the crates that are looked at: over their lines of crates.txt, and over the names and sums of the
