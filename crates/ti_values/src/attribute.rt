@@ -3,10 +3,10 @@
 ghost use Rattle.std.specs.Prelude.{◌≡◌, ◌<◌, ◌^◌, ◌↔◌, ℕ, map, IfOk, IsTrue};
 ghost use Rattle.std.specs.Int.{bit_at};
 ghost use Rattle.ti_values.specs.Attributes.{IsCombinationAt, LacksAttribute, attributes, is_different as the_is_different, is_ignored, lacks_part as the_lacks_part};
-ghost use Rattle.ti_values.specs.Findings.{IsFirstOf};
+ghost use Rattle.ti_values.specs.Findings.{IsFirstOf, sent_at as the_sent_at};
 ghost use Rattle.ti_values.specs.Sent.{texts_of, without_marks as text_without_marks};
 ghost use Rattle.ti_values.specs.Renditions.{lacks as the_lacks, parameters, shifts};
-ghost use Rattle.ti_values.specs.inner.Rows.{row_of};
+ghost use Rattle.ti_values.specs.inner.Rows.{row_of, slices_of};
 
 use crate::lacking::{lacks, lacks_new};
 use crate::list::sent_at;
@@ -115,24 +115,46 @@ fn alone(attribute: usize) -> usize
     1 << attribute
 }
 
+/// The parameters of what is sent for no attribute, and of what is sent for a set.
+#[derive(Drop)]
+struct Compared<'s, A: Allocator> {
+    old: Vec<&'s [u8], A>,
+    mine: Vec<&'s [u8], A>,
+}
+
+/// These of a set.
+fn compare_with_none<A: Allocator + Copy>(
+    alloc: A,
+    sent: &[Vec<u8, A>],
+    set: usize,
+) -> Result<Compared<'_, A>, AllocError>
+    ensures old { IfOk result (λ both. slices_of both.old.items ≡ parameters (the_sent_at (texts_of sent.now) 0)) }
+    ensures mine { IfOk result (λ both. slices_of both.mine.items ≡ parameters (the_sent_at (texts_of sent.now) set)) }
+{
+    let old = parameters_of(alloc, sent_at(sent, 0))?;
+    let mine = parameters_of(alloc, sent_at(sent, set))?;
+    Ok(Compared { old, mine })
+}
+
 /// Whether what is sent for a set with an attribute lacks a parameter that the attribute alone adds.
 fn lacks_attribute<A: Allocator + Copy>(
     alloc: A,
     sent: &[Vec<u8, A>],
+    both: &Compared<'_, A>,
     set: usize,
     attribute: usize,
 ) -> Result<bool, AllocError>
-    requires { attribute < 9 }
+    requires attribute { attribute < 9 }
+    requires old { slices_of both.now.old.items ≡ parameters (the_sent_at (texts_of sent.now) 0) }
+    requires mine { slices_of both.now.mine.items ≡ parameters (the_sent_at (texts_of sent.now) set) }
     ensures { IfOk result (λ lacking.
         IsTrue lacking ↔ LacksAttribute (texts_of sent.now) set attribute) }
 {
     if !has_attribute(set, attribute) {
         return Ok(false);
     }
-    let old = parameters_of(alloc, sent_at(sent, 0))?;
-    let mine = parameters_of(alloc, sent_at(sent, set))?;
     let theirs = parameters_of(alloc, sent_at(sent, alone(attribute)))?;
-    Ok(lacks_new(old.as_slice(), mine.as_slice(), theirs.as_slice()))
+    Ok(lacks_new(both.old.as_slice(), both.mine.as_slice(), theirs.as_slice()))
 }
 
 /// Whether it does so for some attribute.
@@ -144,8 +166,9 @@ fn lacks_some<A: Allocator + Copy>(
     ensures { IfOk result (λ lacking. IsTrue lacking
         ↔ ((attribute : ℕ) × (attribute < 9) × LacksAttribute (texts_of sent.now) set attribute)) }
 {
+    let both = compare_with_none(alloc, sent, set)?;
     'attributes: for attribute in 0..9 {
-        if lacks_attribute(alloc, sent, set, attribute)? {
+        if lacks_attribute(alloc, sent, &both, set, attribute)? {
             return Ok(true);
         }
     }

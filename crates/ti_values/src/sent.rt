@@ -1,6 +1,8 @@
 //! The output of a text for each of some values.
 
-ghost use Rattle.std.specs.Prelude.{◌≡◌, IfOk, IfSome};
+ghost use Rattle.std.specs.Prelude.{◌≡◌, ◌==◌, IfOk, IfSome, codes};
+ghost use Rattle.std.specs.List.{list_any};
+ghost use Rattle.ti_base.specs.Letters.{letter};
 ghost use Rattle.ti_values.specs.Ranges.{parameters_of};
 ghost use Rattle.ti_values.specs.Sent.{AreSent, Sends, texts_of, without_marks};
 ghost use Rattle.ti_values.specs.inner.Rate.{IsWithoutRate};
@@ -31,6 +33,27 @@ pub fn without_marks<A: Allocator + Copy>(alloc: A, bytes: &[u8]) -> Result<Vec<
     }
 }
 
+/// Whether a mark can start somewhere.
+fn has_dollar(bytes: &[u8]) -> bool
+    ensures { result ≡ list_any (λ byte. byte == letter (codes "$")) bytes.now }
+{
+    bytes.iter().any(|byte| *byte == b'$')
+}
+
+/// An output without padding marks, itself if none can start in it.
+#[tactic(auto, using(crate::proofs::SentLemmas::unmarked))]
+fn output_without_marks<A: Allocator + Copy>(
+    alloc: A,
+    output: Vec<u8, A>,
+) -> Result<Vec<u8, A>, AllocError>
+    ensures { IfOk result (λ rest. rest.items ≡ without_marks output.items) }
+{
+    if !has_dollar(output.as_slice()) {
+        return Ok(output);
+    }
+    without_marks(alloc, output.as_slice())
+}
+
 /// Returns the output of a capability for a value, without padding marks, over fresh variables.
 ///
 /// # Errors
@@ -49,7 +72,7 @@ pub fn sent_by<A: Allocator + Copy>(
     let Ok(output) = expand(alloc, capability, &parameters, &mut vars) else {
         return Err(AllocError);
     };
-    without_marks(alloc, output.as_slice())
+    output_without_marks(alloc, output)
 }
 
 /// Returns the output of a capability for each of some values, in their order, without padding marks. The variables are fresh

@@ -8,12 +8,10 @@ use Rattle.ti_values.proofs.attribute.lacks_attribute.Goals as goal
 pub returns : goal.returns
 returns g c =
     let all = texts_of c.args.sent.now in
-    let old : slices_of c.as_slice.result.now ≡ parameters (sent_at all 0) =
-    ap slices_of c.as_slice.ensures.value ∙ c.in_ok-old.ensures ∙ ap parameters c.sent_at.ensures.exact in
-    let mine : slices_of c.as_slice-2.result.now ≡ parameters (sent_at all c.args.set) =
-    ap slices_of c.as_slice-2.ensures.value ∙ c.in_ok-mine.ensures ∙ ap parameters c.sent_at-2.ensures.exact in
+    let old : slices_of c.as_slice.result.now ≡ parameters (sent_at all 0) = ap slices_of c.as_slice.ensures.value ∙ c.requires.old in
+    let mine : slices_of c.as_slice-2.result.now ≡ parameters (sent_at all c.args.set) = ap slices_of c.as_slice-2.ensures.value ∙ c.requires.mine in
     let theirs : slices_of c.as_slice-3.result.now ≡ parameters (sent_at all (2 ^ c.args.attribute)) =
-    ap slices_of c.as_slice-3.ensures.value ∙ c.in_ok-theirs.ensures ∙ ap parameters c.sent_at-3.ensures.exact ∙ ap (λ k. parameters (sent_at all k)) c.alone.ensures in
+    ap slices_of c.as_slice-3.ensures.value ∙ c.in_ok-theirs.ensures ∙ ap parameters c.sent_at.ensures.exact ∙ ap (λ k. parameters (sent_at all k)) c.alone.ensures in
     let is = c.lacks_new.ensures
     ∙ ap (λ x. lacks_new x (slices_of c.as_slice-2.result.now) (slices_of c.as_slice-3.result.now)) old
     ∙ ap (λ x. lacks_new (parameters (sent_at all 0)) x (slices_of c.as_slice-3.result.now)) mine
