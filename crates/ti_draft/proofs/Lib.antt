@@ -2,5 +2,4 @@ pub mod NamedLemmas
 pub mod JoinLemmas
 pub mod LengthLemmas
 pub mod EncodeFaultLemmas
-pub mod CanonicalLemmas
 pub mod EncodedSpellsLemmas

@@ -1,5 +1,5 @@
 -- What is written of an entry, and which entries are not written, and why: the first of four faults that one has.
-use Rattle.std.specs.Prelude.{◌≡◌, ◌⊎◌, ℕ, pos, negsuc, Bool, true, false, ◌||◌, ◌==◌, List, length, map, nat_lt, Option, Some, None, if◌then◌else◌, codes}
+use Rattle.std.specs.Prelude.{◌≡◌, ◌<◌, ◌⊎◌, ℕ, pos, negsuc, Bool, true, false, ◌||◌, ◌==◌, List, length, map, nat_lt, Option, Some, None, if◌then◌else◌, codes}
 use Rattle.std.specs.List.{list_any}
 use Rattle.ti_words.specs.declared.Number.{Number}
 use Rattle.ti_words.specs.declared.Number.TheVariants as numbers
@@ -7,6 +7,8 @@ use Rattle.ti_words.specs.declared.Width.{Width}
 use Rattle.ti_words.specs.Texts.{TextValue, AbsentText, CancelledText, TextOf, is_nul}
 use Rattle.ti_draft.specs.declared.fault.EncodeFault.{EncodeFault}
 use Rattle.ti_draft.specs.declared.fault.EncodeFault.TheVariants as faults
+use Rattle.ti_draft.specs.declared.fault.EncodeIntoFault.{EncodeIntoFault}
+use Rattle.ti_draft.specs.declared.fault.EncodeIntoFault.TheVariants.{Refused, OutTooSmall}
 use Rattle.ti_words.specs.Value.{EntryValue}
 use Rattle.ti_words.specs.Widths.{greatest_number}
 use Rattle.ti_base.specs.Limits.{most_entry_bytes}
@@ -63,6 +65,12 @@ pub record IsEncodingOf (v : EntryValue) (bytes : List ℕ) : Type 0 where
 pub record IsEncodeFault (v : EntryValue) (fault : EncodeFault) : Type 0 where
   pub first : (encode_fault v ≡ Some fault) ⊎ ((encode_fault v ≡ None) × (fault ≡ faults.Memory))
   pub memory : fault ≡ faults.Memory → encode_fault v ≡ None
+
+-- why nothing is written into a room: the first fault that there is, or else fewer bytes than the entry needs
+abbrev pub IsEncodeIntoFault : EntryValue → ℕ → EncodeIntoFault → Type 0
+IsEncodeIntoFault v room (Refused fault) = encode_fault v ≡ Some fault
+IsEncodeIntoFault v room (OutTooSmall need) =
+    (encode_fault v ≡ None) × (need ≡ length (canonical v)) × (room < need)
 
 -- the names of the faults
 abbrev pub encode_fault_word : EncodeFault → List ℕ

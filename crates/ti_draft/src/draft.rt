@@ -3,13 +3,13 @@
 //! A draft lends its names and texts and copies none. A push takes memory as a vector does: now and then, and then for
 //! as many again as there are.
 
-ghost use Rattle.std.specs.Prelude.{◌≡◌, ◌==◌, ◌+◌, ◌∷◌, [], length, map, IsOk, OnOk, OnErr};
-ghost use Rattle.ti_words.specs.Texts.{text_value, TextOf};
-ghost use Rattle.ti_words.specs.Spelling.{mark_in, part_names};
+ghost use Rattle.std.specs.Prelude.{◌≡◌, ◌+◌, ◌∷◌, [], length, map, get_or, IsOk, OnOk, OnErr};
+ghost use Rattle.ti_words.specs.Texts.{text_value, TextOf, AbsentText};
+ghost use Rattle.ti_words.specs.Spelling.{part_names};
 ghost use Rattle.ti_draft.specs.Additions.{with_flags, with_numbers, with_texts, with_extended_flags, with_extended_numbers, with_extended_texts};
-ghost use Rattle.ti_draft.specs.Lists.{names_lent};
 
 use crate::named::Named;
+use crate::source::{Part, Source};
 use std::alloc::{AllocError, Allocator, Global};
 use std::fmt;
 use std::marker::Model;
@@ -168,78 +168,110 @@ impl<'a, A: Allocator> Draft<'a, A> {
         self.extended_texts.reserve(texts)
     }
 
-    /// How wide its numbers are.
-    pub(crate) fn width(&self) -> Width
-        ensures { result ≡ self.now.width }
+    /// How many capabilities have names.
+    fn name_count(&self) -> usize
+        ensures { result ≡ length (part_names self.now.extended) }
     {
+        self.extended_flags.names().len()
+            + self.extended_numbers.names().len()
+            + self.extended_texts.names().len()
+    }
+
+    /// A name by its index, as a text that is there: of flags, then numbers, then texts; at or above the count Absent.
+    fn name(&self, index: usize) -> Text<'a>
+        ensures { text_value result
+            ≡ get_or (map TextOf (part_names self.now.extended)) index AbsentText }
+    {
+        let flags = self.extended_flags.names();
+        let numbers = self.extended_numbers.names();
+        let texts = self.extended_texts.names();
+        if index < flags.len() {
+            return text_at(flags, index);
+        }
+        let index = index - flags.len();
+        if index < numbers.len() {
+            return text_at(numbers, index);
+        }
+        text_at(texts, index - numbers.len())
+    }
+}
+
+impl<'a, A: Allocator> Source for Draft<'a, A> {
+    ghost entry = { λ d. d };
+
+    fn width(&self) -> Width {
         self.width
     }
 
-    /// The names, without a NUL after them.
-    pub(crate) fn names(&self) -> &'a [u8]
-        ensures { result.now ≡ self.now.names }
-    {
+    fn names(&self) -> &[u8] {
         self.names
     }
 
-    /// The lists of the standard part.
-    pub(crate) fn standard(&self) -> Lists<'_, 'a>
-        ensures flags { result.flags.now ≡ self.now.standard.flags }
-        ensures numbers { result.numbers.now ≡ self.now.standard.numbers }
-        ensures texts { map text_value result.texts.now ≡ self.now.standard.texts }
-        ensures names { names_lent result ≡ [] }
-    {
-        Lists {
-            flags: self.flags.as_slice(),
-            numbers: self.numbers.as_slice(),
-            texts: self.texts.as_slice(),
-            flag_names: no_names(),
-            number_names: no_names(),
-            text_names: no_names(),
+    fn flag_count(&self, part: Part) -> usize {
+        match part {
+            Part::Standard => self.flags.len(),
+            Part::Extended => self.extended_flags.marks().len(),
+            Part::Names => 0,
         }
     }
 
-    /// The lists of the extended part.
-    pub(crate) fn extended(&self) -> Lists<'_, 'a>
-        ensures flags { result.flags.now ≡ map mark_in self.now.extended.flags }
-        ensures numbers { result.numbers.now ≡ map mark_in self.now.extended.numbers }
-        ensures texts { map text_value result.texts.now ≡ map mark_in self.now.extended.texts }
-        ensures names { names_lent result ≡ map TextOf (part_names self.now.extended) }
-    {
-        Lists {
-            flags: self.extended_flags.marks(),
-            numbers: self.extended_numbers.marks(),
-            texts: self.extended_texts.marks(),
-            flag_names: self.extended_flags.names(),
-            number_names: self.extended_numbers.names(),
-            text_names: self.extended_texts.names(),
+    fn number_count(&self, part: Part) -> usize {
+        match part {
+            Part::Standard => self.numbers.len(),
+            Part::Extended => self.extended_numbers.marks().len(),
+            Part::Names => 0,
         }
     }
 
-    /// Whether no capability has a name, so that there is no extended part.
-    pub(crate) fn is_nameless(&self) -> bool
-        ensures { result ≡ (length (part_names self.now.extended) == 0) }
-    {
-        let part = self.extended();
-        part.flag_names.is_empty() && part.number_names.is_empty() && part.text_names.is_empty()
+    fn text_count(&self, part: Part) -> usize {
+        match part {
+            Part::Standard => self.texts.len(),
+            Part::Extended => self.extended_texts.marks().len(),
+            Part::Names => self.name_count(),
+        }
+    }
+
+    fn flag(&self, part: Part, index: usize) -> Flag {
+        match part {
+            Part::Standard => item_at(self.flags.as_slice(), index, Flag::No),
+            Part::Extended => item_at(self.extended_flags.marks(), index, Flag::No),
+            Part::Names => Flag::No,
+        }
+    }
+
+    fn number(&self, part: Part, index: usize) -> Number {
+        match part {
+            Part::Standard => item_at(self.numbers.as_slice(), index, Number::Absent),
+            Part::Extended => item_at(self.extended_numbers.marks(), index, Number::Absent),
+            Part::Names => Number::Absent,
+        }
+    }
+
+    fn text(&self, part: Part, index: usize) -> Text<'_> {
+        match part {
+            Part::Standard => text_at(self.texts.as_slice(), index),
+            Part::Extended => text_at(self.extended_texts.marks(), index),
+            Part::Names => self.name(index),
+        }
     }
 }
 
-/// The lists of a part, each lent as a slice. Capabilities of the standard part have no names; others are texts that are
-/// there.
-#[derive(Clone, Copy)]
-pub(crate) struct Lists<'d, 'a> {
-    pub(crate) flags: &'d [Flag],
-    pub(crate) numbers: &'d [Number],
-    pub(crate) texts: &'d [Text<'a>],
-    pub(crate) flag_names: &'d [Text<'a>],
-    pub(crate) number_names: &'d [Text<'a>],
-    pub(crate) text_names: &'d [Text<'a>],
-}
-
-/// No names.
-fn no_names<'d, 'a>() -> &'d [Text<'a>]
-    ensures { result.now ≡ [] }
+/// The item at an index, or another at or above the count.
+fn item_at<T: Copy>(items: &[T], index: usize, other: T) -> T
+    ensures { result ≡ get_or items.now index other }
 {
-    &[]
+    match items.get(index) {
+        Some(item) => *item,
+        None => other,
+    }
+}
+
+/// The text at an index; at or above the count Absent.
+fn text_at<'a>(texts: &[Text<'a>], index: usize) -> Text<'a>
+    ensures { text_value result ≡ get_or (map text_value texts.now) index AbsentText }
+{
+    match texts.get(index) {
+        Some(text) => *text,
+        None => Text::Absent,
+    }
 }

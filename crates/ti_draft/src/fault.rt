@@ -3,20 +3,20 @@
 //! Four faults are looked for in a fixed order, each by one look at what it speaks of. The words of the faults are their
 //! names.
 
-ghost use Rattle.std.specs.Prelude.{◌≡◌, map, length};
+ghost use Rattle.std.specs.Prelude.{◌≡◌, length};
 ghost use Rattle.std.specs.List.{list_any};
-ghost use Rattle.ti_words.specs.Texts.{text_value};
 ghost use Rattle.ti_draft.specs.Canonical.{canonical};
 ghost use Rattle.ti_draft.specs.Lengths.{capped_count};
+ghost use Rattle.ti_draft.specs.Sources.{listed};
 ghost use Rattle.ti_draft.specs.EncodeFaults.{has_nul as the_has_nul, text_has_nul as the_text_has_nul, is_out_of_range as the_is_out_of_range, has_bad_name as the_has_bad_name, has_bad_text as the_has_bad_text, has_bad_number as the_has_bad_number, encode_fault};
 
-use crate::draft::Draft;
-use std::alloc::{AllocError, Allocator};
+use crate::source::{Part, Source};
+use std::alloc::AllocError;
 use std::fmt;
 use ti_base::MOST_ENTRY_BYTES;
 use ti_words::{Number, Text, Width, greatest_number};
 
-/// Why a draft has no bytes. As an error it prints its name.
+/// Why an entry has no bytes. As an error it prints its name.
 #[derive(Clone, Copy, Debug, PartialEq, Eq)]
 pub enum EncodeFault {
     /// The names are empty or hold a NUL, or an extended name holds one.
@@ -24,7 +24,7 @@ pub enum EncodeFault {
     /// A text holds a NUL.
     NulInText,
     /// A number is negative, or too great for the format: above [`GREATEST_WORD`](ti_base::GREATEST_WORD) in a
-    /// legacy draft.
+    /// legacy entry.
     NumberOutOfRange,
     /// The bytes would be more than [`MOST_ENTRY_BYTES`](ti_base::MOST_ENTRY_BYTES).
     TooManyOrLong,
@@ -72,6 +72,26 @@ impl fmt::Display for EncodeFault {
 
 impl std::error::Error for EncodeFault {}
 
+/// Why an entry is not put into a room. As an error it prints its name, and its number after a space.
+#[derive(Clone, Copy, Debug, PartialEq, Eq)]
+pub enum EncodeIntoFault {
+    /// The entry has no bytes.
+    Refused(EncodeFault),
+    /// The room has fewer bytes than the entry, which has this many.
+    OutTooSmall { need: usize },
+}
+
+impl fmt::Display for EncodeIntoFault {
+    fn fmt<W: fmt::Write>(&self, f: &mut fmt::Formatter<W>) -> fmt::Result {
+        match self {
+            EncodeIntoFault::Refused(fault) => f.write_str(fault.word()),
+            EncodeIntoFault::OutTooSmall { need } => write!(f, "OutTooSmall {need}"),
+        }
+    }
+}
+
+impl std::error::Error for EncodeIntoFault {}
+
 /// Whether bytes hold a NUL.
 fn has_nul(bytes: &[u8]) -> bool
     ensures { result ≡ the_has_nul bytes.now }
@@ -79,12 +99,12 @@ fn has_nul(bytes: &[u8]) -> bool
     bytes.contains(&0)
 }
 
-/// Whether a text among these holds a NUL.
-fn any_text_has_nul(texts: &[Text<'_>]) -> bool
-    ensures { result ≡ list_any the_text_has_nul (map text_value texts.now) }
+/// Whether a text of a part holds a NUL.
+fn any_text_has_nul<S: Source>(source: &S, part: Part) -> bool
+    ensures { result ≡ list_any the_text_has_nul (listed (S.entry source.now) part).texts }
 {
-    for text in texts {
-        if matches!(text, Text::Value(bytes) if has_nul(bytes)) {
+    for i in 0..source.text_count(part) {
+        if matches!(source.text(part, i), Text::Value(bytes) if has_nul(bytes)) {
             return true;
         }
     }
@@ -101,12 +121,14 @@ fn is_out_of_range(width: Width, number: Number) -> bool
     }
 }
 
-/// Whether any number is out of range.
-fn any_out_of_range(width: Width, numbers: &[Number]) -> bool
-    ensures { result ≡ list_any (the_is_out_of_range width) numbers.now }
+/// Whether any number of a part is out of range.
+fn any_out_of_range<S: Source>(source: &S, part: Part) -> bool
+    ensures { result ≡ list_any (the_is_out_of_range (S.entry source.now).width)
+        (listed (S.entry source.now) part).numbers }
 {
-    for number in numbers {
-        if is_out_of_range(width, *number) {
+    let width = source.width();
+    for i in 0..source.number_count(part) {
+        if is_out_of_range(width, source.number(part, i)) {
             return true;
         }
     }
@@ -114,44 +136,39 @@ fn any_out_of_range(width: Width, numbers: &[Number]) -> bool
 }
 
 /// The names are empty or hold a NUL, or an extended name holds one.
-fn has_bad_name<A: Allocator>(draft: &Draft<'_, A>) -> bool
-    ensures { result ≡ the_has_bad_name draft.now }
+fn has_bad_name<S: Source>(source: &S) -> bool
+    ensures { result ≡ the_has_bad_name (S.entry source.now) }
 {
-    let part = draft.extended();
-    draft.names().is_empty()
-        || has_nul(draft.names())
-        || any_text_has_nul(part.flag_names)
-        || any_text_has_nul(part.number_names)
-        || any_text_has_nul(part.text_names)
+    let names = source.names();
+    names.is_empty() || has_nul(names) || any_text_has_nul(source, Part::Names)
 }
 
 /// A text holds a NUL.
-fn has_bad_text<A: Allocator>(draft: &Draft<'_, A>) -> bool
-    ensures { result ≡ the_has_bad_text draft.now }
+fn has_bad_text<S: Source>(source: &S) -> bool
+    ensures { result ≡ the_has_bad_text (S.entry source.now) }
 {
-    any_text_has_nul(draft.standard().texts) || any_text_has_nul(draft.extended().texts)
+    any_text_has_nul(source, Part::Standard) || any_text_has_nul(source, Part::Extended)
 }
 
 /// A number is negative, or too great for the format.
-fn has_bad_number<A: Allocator>(draft: &Draft<'_, A>) -> bool
-    ensures { result ≡ the_has_bad_number draft.now }
+fn has_bad_number<S: Source>(source: &S) -> bool
+    ensures { result ≡ the_has_bad_number (S.entry source.now) }
 {
-    any_out_of_range(draft.width(), draft.standard().numbers)
-        || any_out_of_range(draft.width(), draft.extended().numbers)
+    any_out_of_range(source, Part::Standard) || any_out_of_range(source, Part::Extended)
 }
 
-/// The first fault that a draft of this size has.
-pub(crate) fn first_fault<A: Allocator>(draft: &Draft<'_, A>, size: u64) -> Option<EncodeFault>
-    requires { size ≡ capped_count (length (canonical draft.now)) }
-    ensures { result ≡ encode_fault draft.now }
+/// The first fault that an entry of this size has.
+pub(crate) fn first_fault<S: Source>(source: &S, size: u64) -> Option<EncodeFault>
+    requires { size ≡ capped_count (length (canonical (S.entry source.now))) }
+    ensures { result ≡ encode_fault (S.entry source.now) }
 {
-    if has_bad_name(draft) {
+    if has_bad_name(source) {
         return Some(EncodeFault::BadName);
     }
-    if has_bad_text(draft) {
+    if has_bad_text(source) {
         return Some(EncodeFault::NulInText);
     }
-    if has_bad_number(draft) {
+    if has_bad_number(source) {
         return Some(EncodeFault::NumberOutOfRange);
     }
     if size > MOST_ENTRY_BYTES as u64 {

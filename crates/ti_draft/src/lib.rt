@@ -2,7 +2,7 @@
 //!
 //! A [`Draft`] lends its names and texts. [`encode`] writes it in the one layout of `specs/Canonical.antt`, so that equal
 //! drafts give equal bytes, and [`encoded_len`] counts them. Each goes over a section a few times at most, and memory is
-//! taken once.
+//! taken once. [`encode_into`] writes what any [`Source`] lends into a caller's room, and takes no memory.
 #![tactic(auto)]
 
 mod draft;
@@ -11,8 +11,10 @@ mod fault;
 mod named;
 mod put;
 mod size;
+mod source;
 
 pub use draft::Draft;
-pub use encoding::encode;
-pub use fault::EncodeFault;
+pub use encoding::{encode, encode_into};
+pub use fault::{EncodeFault, EncodeIntoFault};
 pub use size::encoded_len;
+pub use source::{Part, Source};

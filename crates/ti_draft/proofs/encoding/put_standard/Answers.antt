@@ -1,39 +1,31 @@
-use Rattle.std.proofs.Common.{◌≡◌, length, ap, arith, append_assoc}
-use Rattle.ti_draft.specs.Canonical.{standard_strings}
+use Rattle.std.proofs.Common.{◌≡◌, ap, length, arith, append-nil}
+use Rattle.ti_draft.specs.Canonical.{standard_strings, texts_table}
 use Rattle.ti_draft.proofs.EncodeFaultLemmas.{few_standard}
+use Rattle.ti_draft.proofs.LengthLemmas.{length_standard}
 use Rattle.ti_draft.proofs.encoding.put_standard.Goals as goal
 
-pub put_counts-requires : goal.put_counts-requires
-put_counts-requires g c = let p = c.standard-part.ensures in rw (p.flags, p.numbers, p.texts, p.names) (few_standard c.args.draft.now c.requires.fit).part
+pub put_counts-counts_end-requires-clause-numbers : goal.put_counts-counts_end-requires-clause-numbers
+put_counts-counts_end-requires-clause-numbers g c = (few_standard (g.S.Source.entry c.args.source.now) c.requires.fit).part.numbers
 
-pub put_count-requires-2 : goal.put_count-requires-2
-put_count-requires-2 g c = omega (arith, (few_standard c.args.draft.now c.requires.fit).names, ap length c.names-names.ensures)
+pub put_counts-counts_end-requires-clause-texts : goal.put_counts-counts_end-requires-clause-texts
+put_counts-counts_end-requires-clause-texts g c = (few_standard (g.S.Source.entry c.args.source.now) c.requires.fit).part.texts
 
-pub put_count-requires-3 : goal.put_count-requires-3
-put_count-requires-3 g c = omega (arith, (few_standard c.args.draft.now c.requires.fit).part.table, c.requires.sizes.table)
+pub put_items-items_end-requires-clause-table : goal.put_items-items_end-requires-clause-table
+put_items-items_end-requires-clause-table g c =
+    omega (arith, simp append-nil at (few_standard (g.S.Source.entry c.args.source.now) c.requires.fit).part.table)
 
-pub put_part-requires-clause-few : goal.put_part-requires-clause-few
-put_part-requires-clause-few g c = let p = c.standard-part.ensures in rw (p.flags, p.numbers, p.texts, p.names) (few_standard c.args.draft.now c.requires.fit).part
+pub put_items-items_end-requires-clause-room : goal.put_items-items_end-requires-clause-room
+put_items-items_end-requires-clause-room g c =
+    let v = g.S.Source.entry c.args.source.now in
+    omega (arith, length_standard v, c.requires.room, ap length c.names-names.ensures, c.flag_count.ensures, c.put_bytes-nul_end.ensures.end, c.put_bytes-names_end.ensures.end, c.put_count-header_end.ensures.end, c.put_counts-counts_end.ensures.end, c.put_count-size_end.ensures.end, c.put_count-magic_end.ensures.end)
 
-pub returns : goal.returns
-returns g c =
-    let p = c.standard-part.ensures in
-    let table : c.args.sizes.now.table ≡ length (standard_strings c.args.draft.now).table = omega (arith, (few_standard c.args.draft.now c.requires.fit).part.table, c.requires.sizes.table) in
-    rw (
-      c.in_ok-put_part.ensures,
-      c.in_ok-push.ensures.items,
-      c.in_ok-extend_from_slice.ensures.items,
-      c.in_ok-put_count-3.ensures,
-      c.in_ok-put_counts.ensures,
-      c.in_ok-put_count-2.ensures,
-      c.in_ok-put_count.ensures,
-      c.magic_number.ensures.value,
-      table,
-      p.flags,
-      p.numbers,
-      p.texts,
-      p.names,
-      c.names-names.ensures,
-      c.width.ensures,
-      c.width-2.ensures,
-    ) (simp append_assoc)
+pub put_texts-requires : goal.put_texts-requires
+put_texts-requires g c =
+    let v = g.S.Source.entry c.args.source.now in
+    let table : length (standard_strings v).table ≡ length (texts_table v.standard.texts) = simp append-nil in
+    omega (arith, length_standard v, table, c.requires.room, ap length c.names-names.ensures, c.flag_count.ensures, c.put_items-items_end.ensures.end, c.put_bytes-nul_end.ensures.end, c.put_bytes-names_end.ensures.end, c.put_count-header_end.ensures.end, c.put_counts-counts_end.ensures.end, c.put_count-size_end.ensures.end, c.put_count-magic_end.ensures.end)
+
+pub returns-clause-end : goal.returns-clause-end
+returns-clause-end g c =
+    let v = g.S.Source.entry c.args.source.now in
+    rw (length_standard v, append-nil) (omega (arith, ap length c.names-names.ensures, c.flag_count.ensures, c.put_texts.ensures.end, c.put_items-items_end.ensures.end, c.put_bytes-nul_end.ensures.end, c.put_bytes-names_end.ensures.end, c.put_count-header_end.ensures.end, c.put_counts-counts_end.ensures.end, c.put_count-size_end.ensures.end, c.put_count-magic_end.ensures.end))
