@@ -66,7 +66,8 @@ def programs(folder: Path) -> dict[str, Path]:
     prove("ti_bench", "ti_c")
     known = dict.fromkeys(["parse", "expand_into", "parse+expand_into", "expand", "read", "feed512", "feed1"], PROVED)
     peers, has_unibilium = build_peers(folder)
-    expanding = ["ti_expand", "ti_expand_needed", "ti_compile", "ti_expand_kept", "ti_expand_kept_needed", "ti_send_needed", "call"]
+    expanding = ["ti_expand", "ti_expand_needed", "ti_compile", "ti_expand_kept", "ti_expand_kept_needed", "ti_send_needed",
+                 "ti_send_kept_needed", "call"]
     ours = ["ti_open", "ti_open+6_texts", "ti_open+6_names", "ti_read", "ti_find", "ti_view_find"]
     known.update(dict.fromkeys([*expanding, *ours, "tiparm", "tiparm_needed", "tparm", "tigetstr"], peers))
     if has_unibilium:

@@ -135,15 +135,22 @@ static size_t run_ti_compile(const struct item *item) {
     return 1 + (ti_compile((const unsigned char *)item->bytes, item->length, &kept, &place) == TI_DONE);
 }
 
+/* Whether the capability is compiled; it is, unless it does not fit. */
+static int is_kept(const struct item *item) {
+    struct compiled *c = item->compiled;
+    size_t place;
+    if (c->state == NEW)
+        c->state = ti_compile((const unsigned char *)item->bytes, item->length, &c->kept, &place) == TI_DONE ? KEPT : NOT_KEPT;
+    return c->state == KEPT;
+}
+
 /* A capability that does not fit is expanded from its bytes. */
 static size_t expand_kept_with(const struct item *item, int passed) {
     static ti_vars vars;
     static unsigned char out[ROOM];
     struct compiled *c = item->compiled;
-    size_t place, written;
-    if (c->state == NEW)
-        c->state = ti_compile((const unsigned char *)item->bytes, item->length, &c->kept, &place) == TI_DONE ? KEPT : NOT_KEPT;
-    if (c->state == NOT_KEPT) return expand_with(item, passed);
+    size_t written;
+    if (!is_kept(item)) return expand_with(item, passed);
     return ti_expand_kept(&c->kept, item->numbers, (size_t)passed, &vars, out, sizeof out, &written) == TI_DONE;
 }
 
@@ -160,6 +167,15 @@ static size_t run_ti_send_needed(const struct item *item) {
     for (int k = 0; k < item->needed; k++) parameters[k] = ti_number(item->numbers[k]);
     return ti_send((const unsigned char *)item->bytes, item->length, parameters, (size_t)item->needed, &terminal, out, sizeof out, &sent)
            == TI_DONE;
+}
+
+/* The same of a compiled capability, or of its bytes if it does not fit. */
+static size_t run_ti_send_kept_needed(const struct item *item) {
+    static ti_terminal terminal;
+    static unsigned char out[2 * ROOM];
+    ti_sent sent;
+    if (!is_kept(item)) return run_ti_send_needed(item);
+    return ti_send_kept(&item->compiled->kept, item->numbers, (size_t)item->needed, &terminal, out, sizeof out, &sent) == TI_DONE;
 }
 
 /* What each expansion of nine parameters costs before the call. */
@@ -257,6 +273,7 @@ static const struct {
     {"ti_expand_kept", run_ti_expand_kept},
     {"ti_expand_kept_needed", run_ti_expand_kept_needed},
     {"ti_send_needed", run_ti_send_needed},
+    {"ti_send_kept_needed", run_ti_send_kept_needed},
     {"call", run_call},
     {"ti_find", run_ti_find},
     {"ti_view_find", run_ti_view_find},

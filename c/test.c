@@ -305,11 +305,32 @@ static int is_same_sending(const unsigned char *bytes, size_t length) {
     return sent.length == long_as && memcmp(own, padded, long_as) == 0 && memcmp(&vars, &terminal.vars, sizeof vars) == 0;
 }
 
+/* Whether a compiled capability is sent as its bytes are: for random numbers, variables, rates and rooms. */
+static int is_same_kept_sending(const unsigned char *bytes, size_t length) {
+    int32_t numbers[10];
+    ti_parameter parameters[10];
+    ti_terminal terminal = ti_terminal_at(next_random() % 2 ? 2000 : 0);
+    ti_sent sent = {11, 12}, own_sent = {11, 12};
+    unsigned char own[ROOM];
+    size_t count = next_random() % 50 ? next_random() % 10 : 10, room = next_random() % 4 ? ROOM : next_random() % 64;
+    for (size_t i = 0; i < 10; i++) parameters[i] = ti_number(numbers[i] = next_random() % 4 ? random_number() : '$');
+    for (size_t i = 0; i < 52; i++) terminal.vars.values[i] = random_number();
+    if (next_random() % 50 == 0) terminal.padding.rate = 1000001;
+    terminal.padding.xon = next_random() % 4 == 0;
+    ti_terminal kept_terminal = terminal;
+    uint32_t answer = ti_send(bytes, length, parameters, count, &terminal, out, room, &sent);
+    return ti_send_kept(&compiled, numbers, count, &kept_terminal, own, room, &own_sent) == answer && sent.length == own_sent.length
+           && sent.place == own_sent.place && (answer != TI_DONE || memcmp(out, own, sent.length) == 0)
+           && memcmp(&terminal.vars, &kept_terminal.vars, sizeof terminal.vars) == 0
+           && memcmp(&terminal.padding, &kept_terminal.padding, offsetof(ti_padding, pad) + 1) == 0;
+}
+
 static void compiles(const char *text) {
     size_t place = 7, length = strlen(text);
     unsigned char *bytes = copy_of(text, length);
     expect(compile(bytes, length, &place) == TI_DONE && place == 7, text);
     for (int i = 0; i < 20; i++) expect(is_same_expansion(bytes, length), text);
+    for (int i = 0; i < 20; i++) expect(is_same_kept_sending(bytes, length), text);
     free(bytes);
 }
 
@@ -373,7 +394,7 @@ static void add_random_part(made_text *made, uint32_t tokens, int level) {
 
 /* Capabilities of random tokens: 100000 expansions of those that are compiled, and the faults of the others. */
 static void test_random_capabilities(int level, const char *words) {
-    int same = 1, sent_same = 1, refused = 1, expansions = 0;
+    int same = 1, sent_same = 1, kept_same = 1, refused = 1, expansions = 0;
     while (expansions < some_of(100000)) {
         made_text made = {"", 0};
         size_t place = 7;
@@ -384,6 +405,7 @@ static void test_random_capabilities(int level, const char *words) {
         if (answer == TI_DONE) {
             int counts = level == 0 || strstr(made.text, "%?") != NULL;
             for (int i = 0; i < 20; i++) same &= is_same_expansion(bytes, made.length);
+            for (int i = 0; i < 20; i++) kept_same &= is_same_kept_sending(bytes, made.length);
             expansions += counts ? 20 : 0;
         } else if (answer != TI_DOES_NOT_FIT) {
             refused &= ti_expand(bytes, made.length, NULL, 0, &vars, out, ROOM, &run) == answer && run.place == place;
@@ -391,6 +413,7 @@ static void test_random_capabilities(int level, const char *words) {
     }
     expect(same, words);
     expect(sent_same, "what is sent is the expansion, padded");
+    expect(kept_same, "what is compiled is sent as its bytes are");
     expect(refused, "those that are refused have the fault of an expansion, and its place");
 }
 
@@ -420,6 +443,38 @@ static void test_compiled(void) {
     compiles("%?%p1%t%?%p2%t1%e%?%p3%t2%e3%;%;4%e%?%p2%t5%e6%;7%;8");
     compiles("%?%?%p1%t%p2%e%p3%;%ta%eb%;%?%p1%{0}%=%tc");
     compiles("%?%p1%{1}%=%ta%e%p1%{2}%=%tb%e%p1%{3}%=%tc%ed%;");
+    compiles("%?%p1%ta%?%p2%tb");
+    compiles("%?%p1%ta%?%p2%tb%ec%?%p3%td%;e%;f%eg%?%p4%th%;%;i");
+    char *text = many("%?%p1%t", 32);
+    compiles(text);
+    free(text);
+    text = many("%e%p1%ta", 20);
+    memcpy(text, "%?", 2);
+    compiles(text);
+    free(text);
+}
+
+/* What a compiled capability writes if its tests go in each way, by hand. */
+static void test_compiled_conditionals(void) {
+    static const struct {
+        const char *text, *outputs[4];
+    } all[] = {
+        {"%?%p1%ta%eb%;c%?%p2%td%;e", {"bce", "ace", "bcde", "acde"}},
+        {"%?%p1%t%?%p2%ta%eb%;%ec%;d", {"cd", "bd", "cd", "ad"}},
+        {"%?%p1%ta%e%p2%tb%ec%;d", {"cd", "ad", "bd", "ad"}},
+        {"%?%p1%t%?%p2%t%e%;a%e%?%p2%tb%;%;c", {"c", "ac", "bc", "ac"}},
+        {"%?%?%p1%t%p2%e%{1}%;%ta%eb", {"a", "b", "a", "a"}},
+        {"%?%p1%ta%?%p2%tb", {"", "a", "", "ab"}},
+    };
+    size_t place, written;
+    for (size_t i = 0; i < sizeof all / sizeof *all; i++)
+        for (int j = 0; j < 4; j++) {
+            int32_t numbers[2] = {j % 2, j / 2};
+            const char *wanted = all[i].outputs[j];
+            expect(compile((const unsigned char *)all[i].text, strlen(all[i].text), &place) == TI_DONE
+                       && ti_expand_kept(&compiled, numbers, 2, NULL, out, ROOM, &written) == TI_DONE && written == strlen(wanted)
+                       && memcmp(out, wanted, written) == 0, all[i].text);
+        }
 }
 
 static void test_not_compiled(void) {
@@ -505,7 +560,7 @@ static void test_forged(void) {
         compiled.varied = next_random() % 2;
         compiled.count = next_random() % 8 ? next_random() % 100 : UINT32_MAX;
         for (int j = 0; j < 96; j++) {
-            compiled.steps[j].kind = (uint8_t)(next_random() % (i % 2 ? 30 : 256));
+            compiled.steps[j].kind = (uint8_t)(next_random() % (i % 2 ? 31 : 256));
             compiled.steps[j].small = (uint8_t)(next_random() % (i % 3 ? 20 : 256));
             compiled.steps[j].place = (uint16_t)(next_random() % (i % 5 ? 40 : 65536));
             compiled.steps[j].number = random_number();
@@ -517,6 +572,14 @@ static void test_forged(void) {
                                              : answer != (room < compiled.bound ? TI_OUT_TOO_SMALL : TI_DONE) || written > room) {
             expect(0, "forged steps keep to the room");
         }
+        ti_terminal terminal = ti_terminal_at(next_random() % 2 ? 2000 : 0), before = terminal;
+        ti_sent sent = {0, 0};
+        answer = ti_send_kept(&compiled, numbers, 9, &terminal, own, room, &sent);
+        if (room < compiled.bound ? answer != TI_OUT_TOO_SMALL || sent.place != compiled.bound
+                                  : answer != TI_DONE && answer != TI_OUT_TOO_SMALL && answer != TI_TOO_MUCH)
+            expect(0, "forged steps are sent or not");
+        if (sent.length > room || (answer != TI_DONE && memcmp(&before.vars, &terminal.vars, sizeof before.vars) != 0))
+            expect(0, "forged steps that are sent keep to the room");
         free(copy);
         free(bytes);
     }
@@ -872,6 +935,89 @@ static void test_fresh_memory(void) {
     free(went);
 }
 
+/* ---- writing entries */
+
+static unsigned char *written;
+static size_t written_length;
+
+/* Writes what a reading has into a room of exactly so many bytes. */
+static uint32_t encode(const struct reading *own, const size_t *rooms, uint32_t bits, size_t room) {
+    ti_arrays arrays = {own->flags, rooms[0], own->numbers, rooms[1], own->texts, rooms[2], own->names, rooms[3]};
+    memset(&written_length, UNWRITTEN, sizeof written_length);
+    written = (unsigned char *)room_of(room);
+    return ti_encode(&arrays, &own->counts, bits, written, room, &written_length);
+}
+
+/* It is written as these bytes, and the rest of the room is as it was. */
+static void encodes(const struct reading *own, uint32_t bits, const unsigned char *wanted, size_t length, const char *words) {
+    for (size_t more = 0; more < 3; more++) {
+        expect(encode(own, EXACT, bits, length + more) == TI_DONE && written_length == length
+               && memcmp(written, wanted, length) == 0 && are_unwritten(written + length, more), words);
+        free(written);
+    }
+}
+
+static void not_encoded(const struct reading *own, const size_t *rooms, uint32_t bits, uint32_t fault, const char *words) {
+    size_t fresh;
+    memset(&fresh, UNWRITTEN, sizeof fresh);
+    expect(encode(own, rooms, bits, 8) == fault && written_length == fresh && are_unwritten(written, 8), words);
+    free(written);
+}
+
+static void test_encoding(void) {
+    struct reading own = read_into(ENTRY, sizeof ENTRY, EXACT);
+    encodes(&own, 16, ENTRY, sizeof ENTRY, "an entry is written as it was read");
+    expect(encode(&own, EXACT, 16, sizeof ENTRY - 1) == TI_OUT_TOO_SMALL && written_length == sizeof ENTRY
+           && are_unwritten(written, sizeof ENTRY - 1), "a room that is one byte too small");
+    free(written);
+    expect(encode(&own, EXACT, 32, sizeof ENTRY + 8) == TI_DONE && written_length == sizeof ENTRY + 8, "four wider numbers");
+    struct reading wide = read_into(written, written_length, EXACT);
+    expect(wide.answer == TI_DONE && wide.counts.number_bits == 32 && memcmp(wide.flags, own.flags, 4) == 0
+           && memcmp(wide.numbers, own.numbers, 4 * sizeof *own.numbers) == 0 && has_text(&wide, 0, "abc")
+           && has_mark(&wide, 2, TI_CANCELLED) && is_lent(&wide, wide.names[3], "S2"), "the same items with wider numbers");
+    release(&wide);
+    free(written);
+    for (int i = 0; i < 4; i++) {
+        size_t rooms[4] = {4, 4, 6, 4};
+        rooms[i]--;
+        not_encoded(&own, rooms, 16, TI_ROOM_TOO_SMALL, "fewer elements than the counts say");
+    }
+    own.flags[0] = 7;
+    encodes(&own, 16, ENTRY, sizeof ENTRY, "a boolean of another number is 1");
+    release(&own);
+    own = read_into(WIDE, sizeof WIDE, EXACT);
+    encodes(&own, 32, WIDE, sizeof WIDE, "a wide entry is written as it was read");
+    not_encoded(&own, EXACT, 16, TI_NUMBER_OUT_OF_RANGE, "a number that 16 bits do not hold");
+    release(&own);
+}
+
+static void test_encode_faults(void) {
+    static unsigned char much[TI_MOST_BYTES];
+    memset(much, 'a', sizeof much);
+    struct reading own = read_into(ENTRY, sizeof ENTRY, EXACT);
+    own.texts[0].text.bytes = much;
+    own.texts[0].text.length = sizeof much;
+    not_encoded(&own, EXACT, 16, TI_TOO_MANY_OR_LONG, "more than 32768 bytes");
+    own.numbers[3] = -3;
+    not_encoded(&own, EXACT, 16, TI_NUMBER_OUT_OF_RANGE, "a number below -2 goes first");
+    own.texts[4].text.bytes = (const unsigned char *)"x\0z";
+    not_encoded(&own, EXACT, 16, TI_NUL_IN_TEXT, "a NUL in a string goes before it");
+    own.names[2].bytes = (const unsigned char *)"S";
+    not_encoded(&own, EXACT, 16, TI_BAD_NAME, "a NUL in a name goes first of all");
+    own.counts.names.length = 0;
+    not_encoded(&own, EXACT, 16, TI_BAD_NAME, "no names");
+    own.counts.flags = SIZE_MAX;
+    not_encoded(&own, EXACT, 16, TI_ROOM_TOO_SMALL, "counts whose sum no size holds");
+    release(&own);
+    ti_counts counts;
+    ti_arrays none = {NULL, 0, NULL, 0, NULL, 0, NULL, 0};
+    memset(&counts, 0, sizeof counts);
+    counts.names.bytes = (const unsigned char *)"b";
+    counts.names.length = 1;
+    expect(ti_encode(&none, &counts, 16, NULL, 0, &written_length) == TI_OUT_TOO_SMALL && written_length == 14,
+           "no arrays, no room, and null pointers");
+}
+
 /* ---- views */
 
 static ti_view view;
@@ -1186,6 +1332,10 @@ static const struct {
     {TI_TOO_MUCH, "TooMuch"},
     {TI_NOT_NAMED, "NotNamed"},
     {TI_ROOM_TOO_SMALL, "RoomTooSmall"},
+    {TI_BAD_NAME, "BadName"},
+    {TI_NUL_IN_TEXT, "NulInText"},
+    {TI_NUMBER_OUT_OF_RANGE, "NumberOutOfRange"},
+    {TI_TOO_MANY_OR_LONG, "TooManyOrLong"},
 };
 
 static void test_words(void) {
@@ -1403,6 +1553,51 @@ static void test_sending(void) {
     expect(ti_send(NULL, 0, NULL, 0, &none, NULL, 0, &sent) == TI_DONE && sent.length == 0, "no text into no room");
 }
 
+/* Compiles a text and sends it over two numbers. */
+static uint32_t send_compiled(const char *text, int32_t first, int32_t second, size_t count, size_t room) {
+    int32_t numbers[10] = {first, second};
+    size_t place;
+    memset(&sent, UNWRITTEN, sizeof sent);
+    expect(compile((const unsigned char *)text, strlen(text), &place) == TI_DONE, text);
+    return ti_send_kept(&compiled, numbers, count, &terminal, out, room, &sent);
+}
+
+static void sends_compiled(const char *text, int32_t first, int32_t second, const char *wanted, size_t length) {
+    uint32_t answer = send_compiled(text, first, second, 2, ROOM);
+    expect(answer == TI_DONE && sent.length == length && memcmp(out, wanted, length) == 0, text);
+    expect(are_unwritten(&sent.place, sizeof sent.place), "no place after a compiled text that is sent");
+}
+
+static void send_compiled_fault(const char *text, size_t count, size_t room, uint32_t fault, size_t place) {
+    ti_terminal before = terminal;
+    expect(send_compiled(text, 1, 0, count, room) == fault && sent.place == place, text);
+    expect(are_unwritten(&sent.length, sizeof sent.length), "no length after a fault of a compiled text");
+    expect(memcmp(&before.vars, &terminal.vars, sizeof before.vars) == 0, "the variables after a fault of a compiled text");
+}
+
+static void test_sending_compiled(void) {
+    terminal = ti_terminal_at(0);
+    sends_compiled(CUP, 4, 9, E "[5;10H", 7);
+    sends_compiled("%?%p1%{8}%<%t3%p1%d%e9%;$<5>m", 3, 0, "33m", 3);
+    sends_compiled("%?%p1%{8}%<%t3%p1%d%e9%;$<5>m", 12, 0, "9m", 2);
+    sends_compiled("$<x>$", 0, 0, "$<x>$", 5);
+    terminal = ti_terminal_at(1000);
+    sends_compiled("a$<3>b", 0, 0, "a\0\0\0b", 5);
+    sends_compiled("%p1%c<2>", '$', 0, "\0\0", 2);
+    sends_compiled("%p1%c<2>", '#', 0, "#<2>", 4);
+    sends_compiled("%p1%Pa%p2%PZ", 4, 9, "", 0);
+    expect(terminal.vars.values[0] == 4 && terminal.vars.values[51] == 9, "variables that a compiled text sets");
+    send_compiled_fault("%p1%Pa", 10, ROOM, TI_TOO_MANY_PARAMETERS, UNWRITTEN_PLACE);
+    send_compiled_fault("%p1%Pb%p1%d", 1, 10, TI_OUT_TOO_SMALL, 11);
+    send_compiled_fault("%p1%PA%{7}%Pzab$<3>c", 1, 12, TI_OUT_TOO_SMALL, 13);
+    send_compiled_fault("%p1%PAabc", 1, 5, TI_OUT_TOO_SMALL, 6);
+    expect(send_compiled("%{8}%PAabc", 0, 0, 0, 6) == TI_DONE && sent.length == 3 && terminal.vars.values[26] == 8, "the room that it needs");
+    terminal.padding.rate = 1000001;
+    send_compiled_fault("%p1%Pb", 10, 0, TI_BAD_PADDING, UNWRITTEN_PLACE);
+    terminal.padding = padding_of(1000000, 65535, 0, 0);
+    send_compiled_fault("%p1%Pb$<99999.9*>", 1, ROOM, TI_TOO_MUCH, 6553493446500);
+}
+
 /* ---- names as strings */
 
 static void test_strings(void) {
@@ -1420,6 +1615,7 @@ int main(void) {
     test_expansion_faults();
     test_order_of_faults();
     test_compiled();
+    test_compiled_conditionals();
     test_random_capabilities(0, "random capabilities do what their bytes do");
     test_random_capabilities(3, "and so do those with conditionals");
     test_not_compiled();
@@ -1433,6 +1629,8 @@ int main(void) {
     test_entry_faults();
     test_broken_entries();
     test_fresh_memory();
+    test_encoding();
+    test_encode_faults();
     test_views();
     test_view_items();
     test_view_names();
@@ -1446,6 +1644,7 @@ int main(void) {
     test_padding();
     test_padding_faults();
     test_sending();
+    test_sending_compiled();
     test_strings();
     expect(ti_version() == 768, "version 0.3.0");
     printf("c: %d passed, %d failed\n", passed, failed);

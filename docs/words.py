@@ -14,15 +14,15 @@ SAID = {
 # Phrases that mean something else: the flags of a format in terminfo(5), the parts of term(5), labels of indices, what a terminal shows.
 ALLOWED = re.compile(
     r"sgr-text|(?:flag|number|text)#N?|flags? (?:does not|that do not|that its)|extended (?:header|part)|"
-    r"flag, number (?:and|or) text|type=text|plain text|In the names of the calls a flag is .*?user-defined"
+    r"flag, number (?:and|or) text|1 in extended|type=text|plain text|In the names of the calls a flag is .*?user-defined"
 )
 LITERAL = re.compile(r'"((?:[^"\\]|\\.)*)"', re.S)
+VOICE = ["advice", "explanation", "item_line", "reason", "request_line", "sentence", "tally"]
 # Sources whose literals people read, those with a space in them; comments and contracts apart.
 SOURCES = [
     "crates/ti_line/src/help.rt", "crates/ti_line/src/command.rt", "crates/ti_line/src/tip.rt", "crates/ti_report/src/finding.rt",
-    "crates/ti_report/src/sentence.rt", "crates/ti_report/src/explanation.rt", "crates/ti_tool/src/advice.rt",
-    "crates/ti_tool/src/sentence.rt", "crates/ti_tool/src/reason.rt", "crates/ti_tool/src/wide.rt", "crates/ti_tool/src/pasted.rt",
-    "crates/ti_tool/src/fault_line.rt", "crates/ti_tool/src/summary.rt", "crates/ti_c/src/messages.rt", "rust/library/src/message.rs",
+    "crates/ti_report/src/sentence.rt", "crates/ti_report/src/explanation.rt", *(f"crates/ti_tool/src/voice/{name}.rt" for name in VOICE),
+    "crates/ti_tool/src/fault_line.rt", "crates/ti_c/src/messages.rt", "rust/library/src/message.rs",
 ]
 PAGES = ["README.md", "rust/library/README.md", "docs/STABLE.md", "SECURITY.md", "docs/EXAMPLES.md"]
 
@@ -76,6 +76,12 @@ def comments_of_rust(path: Path) -> Iterator[str]:
     yield re.sub(r"`[^`]*`", "", re.sub(r"(?ms)^ ?```.*?^ ?```$", "", text))
 
 
+def comments_of_c(path: Path) -> Iterator[str]:
+    """The comments of a header, without their examples."""
+    for comment in re.findall(r"(?s)/\*.*?\*/", path.read_text("utf-8")):
+        yield " ".join(line.strip(" */") for line in comment.splitlines() if not line.startswith(" *     "))
+
+
 def all_texts() -> Iterator[tuple[Path, str]]:
     """All that people read, with the file that has it."""
     for name in SOURCES:
@@ -87,6 +93,7 @@ def all_texts() -> Iterator[tuple[Path, str]]:
     # The roles of parameters in parameters.js are names.
     for path in sorted(set(ROOT.glob("page/source/*.[hj]*")) - {ROOT / "page/source/parameters.js"}):
         yield from ((path, text) for text in browser(path))
+    yield from ((ROOT / "include/ti.h", text) for text in comments_of_c(ROOT / "include/ti.h"))
     for path in sorted(ROOT.glob("python/mogyarsu/*.py")):
         yield from ((path, text) for text in docstrings(path))
     for path in sorted(ROOT.glob("rust/library/src/*.rs")):

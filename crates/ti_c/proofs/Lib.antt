@@ -4,6 +4,7 @@ pub mod OneFaultLemmas
 pub mod PaddingExamples
 pub mod PaddingLemmas
 pub mod SendingLemmas
+pub mod KeptFaultLemmas
 pub mod SendingExamples
 pub mod WordsExamples
 pub mod WordsLemmas
@@ -12,3 +13,6 @@ pub mod ValuesLemmas
 pub mod AreShortLemmas
 pub mod AmpleRoomLemmas
 pub mod EntryExamples
+pub mod GivenEntryLemmas
+pub mod EncodingLemmas
+pub mod EncodingExamples

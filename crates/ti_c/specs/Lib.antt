@@ -5,5 +5,7 @@ pub mod Padding
 pub mod Sending
 pub mod Words
 pub mod Entries
+pub mod Encoding
+pub mod Laws
 pub mod Views
 pub mod inner

@@ -1,7 +1,9 @@
 -- The numbers by which C knows the faults, as `include/ti.h` names them.
-use Rattle.std.specs.Prelude.{ℕ}
+use Rattle.std.specs.Prelude.{ℕ, Option, Some, None}
 use Rattle.ti_cap.specs.declared.language.CapFault.{CapFault}
 use Rattle.ti_cap.specs.declared.language.CapFault.TheVariants as capability
+use Rattle.ti_draft.specs.declared.fault.EncodeFault.{EncodeFault}
+use Rattle.ti_draft.specs.declared.fault.EncodeFault.TheVariants as encode
 use Rattle.ti_layout.specs.declared.fault.Fault.{Fault}
 use Rattle.ti_layout.specs.declared.fault.Fault.TheVariants as entry
 
@@ -76,3 +78,24 @@ not_named = 401
 -- an array has less room than the entry requires
 abbrev pub room_too_small : ℕ
 room_too_small = 402
+
+-- the faults of an entry that is to be written
+abbrev pub bad_name : ℕ
+bad_name = 501
+
+abbrev pub nul_in_text : ℕ
+nul_in_text = 502
+
+abbrev pub number_out_of_range : ℕ
+number_out_of_range = 503
+
+abbrev pub too_many_or_long : ℕ
+too_many_or_long = 504
+
+-- a call for C takes no memory, so that fault has no number
+abbrev pub encode_number : EncodeFault → Option ℕ
+encode_number encode.BadName = Some bad_name
+encode_number encode.NulInText = Some nul_in_text
+encode_number encode.NumberOutOfRange = Some number_out_of_range
+encode_number encode.TooManyOrLong = Some too_many_or_long
+encode_number encode.Memory = None

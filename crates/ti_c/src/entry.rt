@@ -148,7 +148,7 @@ fn put_names<'a>(extended: &Extended<'a>, kind: Kind, names: &mut [Bytes<'a>], f
 }
 
 /// Whether a room holds so many standard items and so many extended ones.
-fn fits(room: usize, standard: usize, extended: usize) -> bool
+pub(crate) fn fits(room: usize, standard: usize, extended: usize) -> bool
     ensures { IsTrue result ↔ (standard + extended ≤ room) }
 {
     standard <= room && extended <= room - standard

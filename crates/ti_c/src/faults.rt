@@ -1,9 +1,11 @@
 //! The numbers by which C knows the faults.
 
-ghost use Rattle.std.specs.Prelude.{◌≡◌};
-ghost use Rattle.ti_c.specs.Numbers.{entry_number, capability_number};
+ghost use Rattle.std.specs.Prelude.{◌≡◌, ◌⊎◌, Some};
+ghost use Rattle.ti_draft.specs.declared.fault.EncodeFault.TheVariants.{Memory};
+ghost use Rattle.ti_c.specs.Numbers.{entry_number, capability_number, encode_number as the_encode_number};
 
 use ti_cap::CapFault;
+use ti_draft::EncodeFault;
 use ti_entry::Fault;
 
 /// No fault.
@@ -76,5 +78,17 @@ pub(crate) fn capability_number(fault: CapFault) -> u32
         CapFault::NoThen => 111,
         CapFault::NestTooDeep => 112,
         CapFault::StackTooDeep => 113,
+    }
+}
+
+/// The number of the fault of an entry that is to be written; no call meets a refusal of memory.
+pub(crate) fn encode_number(fault: EncodeFault) -> u32
+    ensures { (the_encode_number fault ≡ Some result) ⊎ (fault ≡ Memory) }
+{
+    match fault {
+        EncodeFault::BadName => 501,
+        EncodeFault::NulInText => 502,
+        EncodeFault::NumberOutOfRange => 503,
+        EncodeFault::TooManyOrLong | EncodeFault::Memory => 504,
     }
 }

@@ -1,4 +1,4 @@
-//! Entries for callers in C: reading them, analysing, expanding, padding, sending, naming and finding their capabilities, and the
+//! Entries for callers in C: reading and writing them, analysing, expanding, padding, sending, naming and finding their capabilities, and the
 //! words and sentences of faults.
 //!
 //! Each export is a library call of the crates below, with its pointers and lengths as slices, and states that call's
@@ -7,15 +7,19 @@
 #![tactic(auto)]
 
 mod capability;
+mod encoding;
 mod entry;
 mod expansion;
 mod faults;
 mod finding;
+mod given_entry;
 mod kept;
+mod laws;
 mod messages;
 mod names;
 mod padding;
 mod sending;
+mod sending_kept;
 mod view;
 mod word_table;
 mod words;

@@ -64,6 +64,10 @@ fn call_sentence(number: u32) -> &'static str {
         302 => "the padded string would have more than 67108864 bytes\0",
         401 => "nothing has this name, this index or this number\0",
         402 => "an array has less room than the entry requires\0",
+        501 => "the names are empty or hold a NUL, or a user-defined name holds one\0",
+        502 => "a string holds a NUL\0",
+        503 => "a number is below -2, or too great for the format\0",
+        504 => "the entry would have more than 32768 bytes\0",
         _ => "\0",
     }
 }

@@ -104,7 +104,7 @@ fn is_sent_as_it_is(out: &[u8], written: usize) -> bool
 
 /// Pads the output at the front of a room, and returns 0 with the length of the padded text, which replaces it; or the number of
 /// the first fault with the place, and the room is as before.
-fn put_padded(out: &mut [u8], written: usize, padding: &Padding, sent: &mut Sent) -> u32
+pub(crate) fn put_padded(out: &mut [u8], written: usize, padding: &Padding, sent: &mut Sent) -> u32
     requires { written ≤ length out.old }
     ensures answer { (result ≡ done) ⊎ IsUnsent (take written out.old)
         (padded_text (take written out.old) padding.now) (length out.old)

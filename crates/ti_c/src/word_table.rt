@@ -1,9 +1,9 @@
 //! The words of faults by their numbers: data, and no code.
 //!
-//! The faults of entries, of capabilities, of an expansion, of padding, of a search and of arrays, by their numbers. After
-//! each word stands a NUL, which is no part of it: C programs may print it.
+//! The faults of entries, of capabilities, of an expansion, of padding, of a search, of arrays and of writing, by their
+//! numbers. After each word stands a NUL, which is no part of it: C programs may print it.
 
-pub(crate) static WORDS: [(u32, &str); 36] = [
+pub(crate) static WORDS: [(u32, &str); 40] = [
     (1, "Truncated\0"),
     (2, "BadMagic\0"),
     (3, "BadHeader\0"),
@@ -40,4 +40,8 @@ pub(crate) static WORDS: [(u32, &str); 36] = [
     (302, "TooMuch\0"),
     (401, "NotNamed\0"),
     (402, "RoomTooSmall\0"),
+    (501, "BadName\0"),
+    (502, "NulInText\0"),
+    (503, "NumberOutOfRange\0"),
+    (504, "TooManyOrLong\0"),
 ];
