@@ -329,6 +329,26 @@ def test_check_and_pad() -> None:
     expect(fault_of(ti.pad, b"", 1000001) == (301, "BadPadding", None), "a rate above the limit")
 
 
+def test_encode() -> None:
+    """Entries by hand from term(5), and what is refused."""
+    bell = mogyarsu.encode(b"ring|a bell", texts=[None, b"\x07"])
+    expect(bell == b"\x1a\x01\x0c\0\0\0\0\0\x02\0\x02\0ring|a bell\0\xff\xff\0\0\x07\0", "an entry of one string")
+    entry = mogyarsu.Entry(
+        mogyarsu.encode("t", [True, None], [70000, -2], ["a", -2], [("S", b"xyz"), ("F", True), ("N", 7)], 32))
+    expect(entry.names == [b"t"] and entry.number_bits == 32, "names, and numbers of 32 bits")
+    expect(dict(entry) == {"bw": True, "cols": 70000, "cbt": b"a", "F": True, "N": 7, "S": b"xyz"}, "what an entry was made of")
+    expect(entry.is_cancelled("number", "it") and entry.is_cancelled("text", "bel") and not entry.flag("am"), "what is not there")
+    expect(fault_of(mogyarsu.encode, "") == (501, "BadName", None), "no names")
+    expect(fault_of(mogyarsu.encode, "t", (), (), ["a\0"], [("x\0", 1)]) == (501, "BadName", None), "a NUL in a name")
+    expect(fault_of(mogyarsu.encode, "t", (), [-3], ["a\0"]) == (502, "NulInText", None), "a NUL in a string")
+    expect(fault_of(mogyarsu.encode, "t", (), [32768]) == (503, "NumberOutOfRange", None), "a number of more than 16 bits")
+    expect(fault_of(mogyarsu.encode, "t", (), (), [b"a" * 32768]) == (504, "TooManyOrLong", None), "more than 32768 bytes")
+    expect(says(ValueError, mogyarsu.encode, "t", number_bits=64) == "number_bits: 64 is neither 16 nor 32", "no such width")
+    expect(says(ValueError, mogyarsu.encode, "t", [2]) == "flags: 2 is not between -2 and 1", "no mark of a boolean")
+    expect(says(TypeError, mogyarsu.encode, "t", (), (), (), ["F"]) == "extended: pairs are wanted, and this is a str", "no pair")
+    expect(says(TypeError, mogyarsu.encode, "t", (), [1.5]) == "numbers: a number is wanted, and this is a float", "no number")
+
+
 def test_version() -> None:
     told = subprocess.run(["./ti", "--version"], capture_output=True, text=True, check=True).stdout.split()[1]
     expect(".".join(map(str, ti.version())) == told, f"version {ti.version()}, not {told}")
@@ -338,8 +358,8 @@ def test_former_name() -> None:
     expect(ti.Entry is mogyarsu.Entry and ti.expand is mogyarsu.expand and ti.__version__ == mogyarsu.__version__, "ti")
 
 
-for test in (test_mapping, test_wrong_arguments, test_kept, test_read_only, test_first_iteration, test_send, test_send_kept, test_buffers, test_counts, test_entry, test_expand, test_check_and_pad, test_version,
-             test_former_name):
+for test in (test_mapping, test_wrong_arguments, test_kept, test_read_only, test_first_iteration, test_send, test_send_kept, test_buffers, test_counts, test_entry, test_expand, test_check_and_pad, test_encode,
+             test_version, test_former_name):
     test()
 print(f"python: {passed} passed, {failed} failed")
 sys.exit(1 if failed else 0)

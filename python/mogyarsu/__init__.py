@@ -11,6 +11,8 @@
     >>> move = mogyarsu.Capability(entry["cup"])  # compiled once, for what is sent often
     >>> move.send(4, 9), move(0, 0)
     (b'\\x1b[5;10H', b'\\x1b[1;1H')
+    >>> mogyarsu.Entry(mogyarsu.encode("ring|a bell", [], [], [None, b"\\x07"]))["bel"]  # an entry that is made
+    b'\\x07'
 
 An entry is a mapping of what the terminal has: booleans that are set, numeric capabilities, and strings. Names are those of
 terminfo(5), the short ones such as cup and the long ones such as cursor_address, and those that the entry gives to its user-defined
@@ -22,11 +24,11 @@ name that nothing has raises KeyError, an argument of another type TypeError, an
 LIBRARY = "libti.so.0.3"
 
 try:
-    from mogyarsu._compiled import Capability, Entry, Fault, Limits, Variables, check, expand, pad, send, version
+    from mogyarsu._compiled import Capability, Entry, Fault, Limits, Variables, check, encode, expand, pad, send, version
 except ImportError:
-    from mogyarsu._by_ctypes import Capability, Entry, Fault, Limits, Variables, check, expand, pad, send, version
+    from mogyarsu._by_ctypes import Capability, Entry, Fault, Limits, Variables, check, encode, expand, pad, send, version
 
-__all__ = ["Capability", "Entry", "Fault", "Limits", "Variables", "check", "expand", "pad", "send", "version"]
+__all__ = ["Capability", "Entry", "Fault", "Limits", "Variables", "check", "encode", "expand", "pad", "send", "version"]
 __version__ = "%d.%d.%d" % version()
 
 for _one in (Entry, Fault, Limits, Variables):

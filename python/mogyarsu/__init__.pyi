@@ -1,8 +1,8 @@
-from collections.abc import Iterator, Mapping
+from collections.abc import Iterable, Iterator, Mapping
 from os import PathLike
 from typing import Any, Union
 
-__all__ = ["Capability", "Entry", "Fault", "Limits", "Variables", "check", "expand", "pad", "send", "version"]
+__all__ = ["Capability", "Entry", "Fault", "Limits", "Variables", "check", "encode", "expand", "pad", "send", "version"]
 __version__: str
 LIBRARY: str
 
@@ -61,6 +61,10 @@ class Capability:
     ) -> _Data: ...
 
 def check(capability: Text, longest_text: int = 0) -> Limits: ...
+def encode(
+    names: str | Text, flags: Iterable[int | None] = (), numbers: Iterable[int | None] = (), texts: Iterable[str | Text | int | None] = (),
+    extended: Iterable[tuple[str | Text, int | str | Text]] = (), number_bits: int = 16,
+) -> bytes: ...
 def expand(capability: Text, *parameters: Parameter, variables: Variables | None = None) -> bytes: ...
 def send(
     capability: Text, *parameters: Parameter, variables: Variables | None = None, rate: int = 0, affected_lines: int = 1,

@@ -1,7 +1,7 @@
 """What mogyarsu has over the shared library, where its compiled module was not built."""
 
-from collections.abc import Iterator, Mapping
-from ctypes import POINTER, Array, PyDLL, Structure, byref, c_char_p, c_int32, c_size_t, c_uint8, c_uint16, c_uint32
+from collections.abc import Iterable, Iterator, Mapping
+from ctypes import POINTER, Array, PyDLL, Structure, byref, c_char_p, c_int8, c_int32, c_size_t, c_uint8, c_uint16, c_uint32
 from ctypes import c_uint64, c_void_p, cast, create_string_buffer, string_at
 from dataclasses import dataclass, field
 from os import PathLike
@@ -54,6 +54,17 @@ class _Counts(Structure):
     names: _Bytes
     number_bits: int
     place: int
+
+
+class _TextItem(Structure):
+    _fields_ = [("text", _Bytes), ("mark", c_int8)]
+
+
+class _Arrays(Structure):
+    _fields_ = [
+        ("flags", c_void_p), ("flag_room", c_size_t), ("numbers", c_void_p), ("number_room", c_size_t), ("texts", c_void_p),
+        ("text_room", c_size_t), ("names", c_void_p), ("name_room", c_size_t),
+    ]
 
 
 class _View(Structure):
@@ -145,6 +156,7 @@ _declare("ti_open", *_TEXT, POINTER(_View))
 _declare("ti_view_find", POINTER(_View), *_TEXT, POINTER(_Value))
 _declare("ti_view_item", POINTER(_View), c_size_t, POINTER(_Bytes), POINTER(c_uint32), POINTER(_Value))
 _declare("ti_view_extended", POINTER(_View), c_uint32, c_size_t, POINTER(_Bytes), POINTER(_Value))
+_declare("ti_encode", POINTER(_Arrays), POINTER(_Counts), c_uint32, c_void_p, c_size_t, POINTER(c_size_t))
 _declare("ti_check", *_TEXT, c_uint16, POINTER(_Limits))
 _declare("ti_expand", *_TEXT, c_void_p, c_size_t, POINTER(_Variables), c_void_p, c_size_t, POINTER(_Run))
 _declare("ti_compile", *_TEXT, POINTER(_Kept), POINTER(c_size_t))
@@ -332,6 +344,68 @@ class Entry(Mapping[str, Any]):
 
 
 # ---- capabilities
+
+
+ENCODE_FAULTS = {501: "names", 502: "texts", 503: "numbers"}
+
+
+def _lent(argument: str, value: str | Text, held: list[bytes]) -> _Bytes:
+    """The bytes of an argument, which last as long as the list of those that are held."""
+    held.append(_text_of(argument, value))
+    return _Bytes(cast(c_char_p(held[-1]), c_void_p), len(held[-1]))
+
+
+def _mark(argument: str, value: int | None, least: int, most: int) -> int:
+    """A number for C; None is absent."""
+    return -1 if value is None else _within(argument, value, least, most)
+
+
+def _text_item(value: str | Text | int | None, held: list[bytes]) -> _TextItem:
+    if value is None or isinstance(value, int):
+        return _TextItem(_Bytes(), _mark("texts", value, CANCELLED, -1))
+    return _TextItem(_lent("texts", value, held), 0)
+
+
+def _kind_of(value: int | str | Text) -> int:
+    """The kind of a user-defined capability by the type of its value."""
+    return 0 if isinstance(value, bool) else 1 if isinstance(value, int) else 2
+
+
+def _pair(value: object) -> tuple[Any, Any]:
+    if not isinstance(value, tuple):
+        raise TypeError(f"extended: pairs are wanted, and this is a {type(value).__name__}")
+    if len(value) != 2:
+        raise TypeError("extended: pairs of a name and a value are wanted")
+    return value[0], value[1]
+
+
+def encode(
+    names: str | Text, flags: Iterable[int | None] = (), numbers: Iterable[int | None] = (),
+    texts: Iterable[str | Text | int | None] = (), extended: Iterable[tuple[str | Text, int | str | Text]] = (), number_bits: int = 16,
+) -> bytes:
+    """The bytes of the entry with these names, which | separates, and these capabilities: lists of the standard ones by their
+    indexes, and of the user-defined ones pairs of a name and a bool, an int or bytes. None is absent, and -2 cancelled. Its numbers
+    have 16 bits or 32. Raises Fault if the names are empty, a name or a string holds a NUL, a number is out of range, or the
+    entry would have more than 32768 bytes."""
+    if number_bits not in (16, 32):
+        raise ValueError(f"number_bits: {number_bits} is neither 16 nor 32")
+    held: list[bytes] = []
+    lists: list[list[Any]] = [list(flags), list(numbers), list(texts)]
+    pairs = [_pair(one) for one in extended]
+    named = [[pair for pair in pairs if _kind_of(pair[1]) == kind] for kind in range(3)]
+    counts = _Counts(_lent("names", names, held), *map(len, lists), *map(len, named))
+    marks = [_mark("flags", one, CANCELLED, 1) for one in [*lists[0], *(value for _, value in named[0])]]
+    words = [_mark("numbers", one, -(2**31), 2**31 - 1) for one in [*lists[1], *(value for _, value in named[1])]]
+    items = [_text_item(one, held) for one in [*lists[2], *(value for _, value in named[2])]]
+    called = [_lent("extended", name, held) for kind in named for name, _ in kind]
+    filled = [
+        (c_int8 * len(marks))(*marks), (c_int32 * len(words))(*words), (_TextItem * len(items))(*items), (_Bytes * len(called))(*called)
+    ]
+    arrays = _Arrays(*(part for one in filled for part in (cast(one, c_void_p), len(one))))
+    out, length = create_string_buffer(MOST_BYTES), c_size_t()
+    if fault := _library.ti_encode(byref(arrays), byref(counts), number_bits, out, MOST_BYTES, byref(length)):
+        raise Fault(ENCODE_FAULTS.get(fault, "entry"), fault)
+    return _front(out, length.value)
 
 
 @dataclass

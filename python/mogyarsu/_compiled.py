@@ -6,6 +6,7 @@ from _collections_abc import Mapping
 
 from mogyarsu import _ti
 from mogyarsu._ti import Capability as Capability
+from mogyarsu._ti import encode as encode
 from mogyarsu._ti import expand as expand
 from mogyarsu._ti import pad as pad
 from mogyarsu._ti import send as send

@@ -369,8 +369,8 @@ static PyObject *send(PyObject *module, PyObject *const *array, Py_ssize_t count
     return run_anew(array, count, names, 1);
 }
 
-/* A text with its padding. What is too much is a fault of this argument. */
-static PyObject *pad_bytes(const unsigned char *text, size_t length, const ti_padding *padding, const char *argument) {
+/* A text with its padding. */
+static PyObject *pad_bytes(const unsigned char *text, size_t length, const ti_padding *padding) {
     struct room room;
     size_t padded;
     uint32_t fault;
@@ -378,7 +378,7 @@ static PyObject *pad_bytes(const unsigned char *text, size_t length, const ti_pa
     while ((fault = ti_pad(text, length, padding, room.bytes, room.length, &padded)) == TI_OUT_TOO_SMALL)
         if (widen(&room, padded)) return leave(&room);
     if (fault == TI_DONE) return front_of(&room, padded);
-    raise_fault(fault == TI_BAD_PADDING ? "padding" : argument, fault, no_place());
+    raise_fault(fault == TI_BAD_PADDING ? "padding" : "text", fault, no_place());
     return leave(&room);
 }
 
@@ -392,7 +392,7 @@ static PyObject *pad(PyObject *module, PyObject *args, PyObject *named) {
                                      &options.pad_byte))
         return NULL;
     if ((text = bytes_of("text", value)) == NULL) return NULL;
-    if (read_padding(&options, &padding) == 0) padded = pad_bytes(start_of(text), length_of(text), &padding, "text");
+    if (read_padding(&options, &padding) == 0) padded = pad_bytes(start_of(text), length_of(text), &padding);
     Py_DECREF(text);
     return padded;
 }
@@ -475,40 +475,34 @@ static int read_numbers(const struct words *words, int32_t *numbers) {
     return 1;
 }
 
-/* Expands a kept capability into a room; -1 after an exception. */
-static int fill(capability_object *self, const int32_t *numbers, size_t count, ti_vars *vars, struct room *room, size_t *written) {
-    uint32_t fault;
-    start_room(room);
-    if (self->kept.bound > room->length && widen(room, (size_t)self->kept.bound)) return -1;
-    fault = ti_expand_kept(&self->kept, numbers, count, vars, room->bytes, room->length, written);
-    if (fault != TI_DONE) raise_expansion(fault, 0);
-    return fault == TI_DONE ? 0 : -1;
-}
-
 /* Variables are read and written only if it has some. */
 static PyObject *expand_kept(capability_object *self, const int32_t *numbers, size_t count, PyObject *variables) {
     struct room room;
     ti_vars vars;
     size_t written;
+    uint32_t fault;
     int varied = self->kept.varied;
     if (varied && read_variables(variables, &vars)) return NULL;
-    if (fill(self, numbers, count, varied ? &vars : NULL, &room, &written)) return leave(&room);
-    if (varied && write_variables(variables, &vars)) return leave(&room);
+    start_room(&room);
+    if (self->kept.bound > room.length && widen(&room, (size_t)self->kept.bound)) return leave(&room);
+    fault = ti_expand_kept(&self->kept, numbers, count, varied ? &vars : NULL, room.bytes, room.length, &written);
+    if (fault != TI_DONE) raise_expansion(fault, 0);
+    if (fault != TI_DONE || (varied && write_variables(variables, &vars))) return leave(&room);
     return front_of(&room, written);
 }
 
 static PyObject *send_kept(capability_object *self, const int32_t *numbers, size_t count, const struct options *options) {
     struct room room;
-    ti_padding padding;
-    ti_vars vars;
-    size_t written;
-    PyObject *padded;
-    if (read_padding(options, &padding) || read_variables(options->variables, &vars)) return NULL;
-    if (fill(self, numbers, count, &vars, &room, &written)) return leave(&room);
-    padded = pad_bytes(room.bytes, written, &padding, "padding");
-    PyMem_Free(room.taken);
-    if (padded != NULL && write_variables(options->variables, &vars)) Py_CLEAR(padded);
-    return padded;
+    ti_terminal terminal;
+    ti_sent sent;
+    uint32_t fault;
+    if (read_padding(options, &terminal.padding) || read_variables(options->variables, &terminal.vars)) return NULL;
+    start_room(&room);
+    while ((fault = ti_send_kept(&self->kept, numbers, count, &terminal, room.bytes, room.length, &sent)) == TI_OUT_TOO_SMALL)
+        if (widen(&room, sent.place)) return leave(&room);
+    if (fault != TI_DONE) raise_expansion(fault, sent.place);
+    if (fault != TI_DONE || write_variables(options->variables, &terminal.vars)) return leave(&room);
+    return front_of(&room, sent.length);
 }
 
 /* Runs a kept capability over numbers, and any other over its bytes. */
@@ -777,6 +771,142 @@ static PyType_Slot view_slots[] = {
 
 static PyType_Spec view_type = {"mogyarsu._ti.View", sizeof(view_object), 0, Py_TPFLAGS_DEFAULT | Py_TPFLAGS_BASETYPE, view_slots};
 
+/* ---- writing entries */
+
+/* The items of an entry that is to be written, and a list of the bytes into which they point. */
+struct items {
+    ti_arrays arrays;
+    ti_counts counts;
+    PyObject *held;
+};
+
+/* The bytes of an argument, which last as long as the items; -1 after an exception. */
+static int hold(struct items *items, const char *argument, PyObject *value, ti_bytes *at) {
+    PyObject *bytes = text_of(argument, value, "a str or bytes are");
+    int status = bytes == NULL ? -1 : PyList_Append(items->held, bytes);
+    if (status == 0) *at = (ti_bytes){start_of(bytes), length_of(bytes)};
+    Py_XDECREF(bytes);
+    return status;
+}
+
+/* Adds a capability of a kind after those that there are: None is absent, and -2 cancelled; -1 after an exception. */
+static int add_item(struct items *items, int kind, PyObject *value) {
+    static const ti_bytes nothing = {NULL, 0};
+    long long number = TI_ABSENT;
+    ti_text_item *text = items->arrays.texts + items->arrays.text_room;
+    if (kind == TI_TEXT && value != Py_None && !PyLong_Check(value)) {
+        text->mark = 0;
+        items->arrays.text_room++;
+        return hold(items, "texts", value, &text->text);
+    }
+    if (value != Py_None) {
+        if (kind == TI_FLAG && number_of("flags", value, TI_CANCELLED, 1, &number)) return -1;
+        if (kind == TI_NUMBER && number_of("numbers", value, INT32_MIN, INT32_MAX, &number)) return -1;
+        if (kind == TI_TEXT && number_of("texts", value, TI_CANCELLED, TI_ABSENT, &number)) return -1;
+    }
+    if (kind == TI_FLAG) items->arrays.flags[items->arrays.flag_room++] = (int8_t)number;
+    if (kind == TI_NUMBER) items->arrays.numbers[items->arrays.number_room++] = (int32_t)number;
+    if (kind == TI_TEXT) {
+        *text = (ti_text_item){nothing, (int8_t)number};
+        items->arrays.text_room++;
+    }
+    return 0;
+}
+
+/* Adds the values of a tuple. */
+static int add_all(struct items *items, int kind, PyObject *values) {
+    for (Py_ssize_t i = 0; i < PyTuple_Size(values); i++)
+        if (add_item(items, kind, PyTuple_GetItem(values, i))) return -1;
+    return 0;
+}
+
+/* The kind of a user-defined capability by the type of its value: bool, int, or str and bytes. */
+static int kind_of(PyObject *value) { return PyBool_Check(value) ? TI_FLAG : PyLong_Check(value) ? TI_NUMBER : TI_TEXT; }
+
+/* Adds those of a kind of the pairs of a name and a value, and their names. */
+static int add_extended(struct items *items, int kind, PyObject *pairs) {
+    for (Py_ssize_t i = 0; i < PyTuple_Size(pairs); i++) {
+        PyObject *name, *value, *pair = PyTuple_GetItem(pairs, i);
+        if (!PyTuple_Check(pair)) {
+            raise_type("extended", "pairs are", pair);
+            return -1;
+        }
+        if (!PyArg_ParseTuple(pair, "OO;extended: pairs of a name and a value are wanted", &name, &value)) return -1;
+        if (kind_of(value) != kind) continue;
+        if (hold(items, "extended", name, &items->arrays.names[items->arrays.name_room++]) || add_item(items, kind, value)) return -1;
+    }
+    return 0;
+}
+
+/* Adds the standard capabilities of each kind, and then the extended ones, and counts them. */
+static int add_lists(struct items *items, PyObject *const *lists, PyObject *pairs) {
+    size_t *rooms[] = {&items->arrays.flag_room, &items->arrays.number_room, &items->arrays.text_room};
+    size_t *counts[] = {&items->counts.flags, &items->counts.numbers, &items->counts.texts};
+    size_t *extended[] = {&items->counts.extended_flags, &items->counts.extended_numbers, &items->counts.extended_texts};
+    for (int kind = TI_FLAG; kind <= TI_TEXT; kind++) {
+        if (add_all(items, kind, lists[kind])) return -1;
+        *counts[kind] = *rooms[kind];
+        if (add_extended(items, kind, pairs)) return -1;
+        *extended[kind] = *rooms[kind] - *counts[kind];
+    }
+    return 0;
+}
+
+/* Takes memory for the items of these lists; -1 after MemoryError. */
+static int take_room(struct items *items, PyObject *const *lists, PyObject *pairs) {
+    size_t more = (size_t)PyTuple_Size(pairs) + 1;
+    items->arrays.flags = PyMem_Calloc((size_t)PyTuple_Size(lists[TI_FLAG]) + more, sizeof *items->arrays.flags);
+    items->arrays.numbers = PyMem_Calloc((size_t)PyTuple_Size(lists[TI_NUMBER]) + more, sizeof *items->arrays.numbers);
+    items->arrays.texts = PyMem_Calloc((size_t)PyTuple_Size(lists[TI_TEXT]) + more, sizeof *items->arrays.texts);
+    items->arrays.names = PyMem_Calloc(more, sizeof *items->arrays.names);
+    items->held = PyList_New(0);
+    if (items->arrays.flags && items->arrays.numbers && items->arrays.texts && items->arrays.names && items->held) return 0;
+    if (!PyErr_Occurred()) PyErr_NoMemory();
+    return -1;
+}
+
+/* The bytes of the entry of these items. */
+static PyObject *written(const struct items *items, uint32_t number_bits) {
+    static const char *const arguments[] = {"names", "texts", "numbers", "entry"};
+    unsigned char out[TI_MOST_BYTES];
+    size_t length;
+    uint32_t fault = ti_encode(&items->arrays, &items->counts, number_bits, out, sizeof out, &length);
+    if (fault == TI_DONE) return PyBytes_FromStringAndSize((const char *)out, (Py_ssize_t)length);
+    return raise_fault(fault < TI_BAD_NAME ? "entry" : arguments[fault - TI_BAD_NAME], fault, no_place());
+}
+
+static PyObject *encode_lists(PyObject *value, PyObject *const *lists, PyObject *pairs, uint32_t number_bits) {
+    struct items items = {{NULL, 0, NULL, 0, NULL, 0, NULL, 0}, {{NULL, 0}, 0, 0, 0, 0, 0, 0, 0, 0}, NULL};
+    PyObject *entry = NULL;
+    if (take_room(&items, lists, pairs) == 0 && hold(&items, "names", value, &items.counts.names) == 0
+        && add_lists(&items, lists, pairs) == 0)
+        entry = written(&items, number_bits);
+    PyMem_Free(items.arrays.flags);
+    PyMem_Free(items.arrays.numbers);
+    PyMem_Free(items.arrays.texts);
+    PyMem_Free(items.arrays.names);
+    Py_XDECREF(items.held);
+    return entry;
+}
+
+static PyObject *encode(PyObject *module, PyObject *args, PyObject *named) {
+    static char *words[] = {"names", "flags", "numbers", "texts", "extended", "number_bits", NULL};
+    PyObject *names, *given[4] = {NULL, NULL, NULL, NULL}, *lists[4] = {NULL, NULL, NULL, NULL}, *entry = NULL;
+    int number_bits = 16, taken = 0;
+    (void)module;
+    if (!PyArg_ParseTupleAndKeywords(args, named, "O|OOOOi:encode", words, &names, &given[0], &given[1], &given[2], &given[3],
+                                     &number_bits))
+        return NULL;
+    if (number_bits != 16 && number_bits != 32) {
+        PyErr_Format(PyExc_ValueError, "number_bits: %d is neither 16 nor 32", number_bits);
+        return NULL;
+    }
+    while (taken < 4 && (lists[taken] = given[taken] == NULL ? PyTuple_New(0) : PySequence_Tuple(given[taken])) != NULL) taken++;
+    if (taken == 4) entry = encode_lists(names, lists, lists[3], (uint32_t)number_bits);
+    for (int i = 0; i < 4; i++) Py_XDECREF(lists[i]);
+    return entry;
+}
+
 /* ---- the module */
 
 static PyObject *said(uint32_t fault, const ti_bytes *words) {
@@ -828,6 +958,11 @@ static PyMethodDef functions[] = {
      "The string with each delay, such as $<5>, as pad bytes for a line of this rate, in bytes per second. At the rate 0\n"
      "the delays vanish. Raises Fault if the rate, the lines or the padded string are above their limits, and ValueError if a number\n"
      "does not fit C's type of it."},
+    {"encode", (PyCFunction)(void (*)(void))encode, METH_VARARGS | METH_KEYWORDS,
+     "The bytes of the entry with these names, which | separates, and these capabilities: lists of the standard ones by their\n"
+     "indexes, and of the user-defined ones pairs of a name and a bool, an int or bytes. None is absent, and -2 cancelled. Its numbers\n"
+     "have 16 bits or 32. Raises Fault if the names are empty, a name or a string holds a NUL, a number is out of range, or the\n"
+     "entry would have more than 32768 bytes."},
     {"check", check, METH_VARARGS, NULL},
     {"word", word, METH_VARARGS, NULL},
     {"message", message, METH_VARARGS, NULL},

@@ -1,5 +1,6 @@
 from mogyarsu import Capability as Capability
 from mogyarsu import Text
+from mogyarsu import encode as encode
 from mogyarsu import expand as expand
 from mogyarsu import pad as pad
 from mogyarsu import send as send

@@ -37,4 +37,5 @@ io_errors! {
     PadIntoError => InvalidInput,
     CompileError => InvalidInput,
     crate::ExpandError => InvalidInput,
+    crate::SendError => InvalidInput,
 }

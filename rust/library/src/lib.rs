@@ -40,7 +40,7 @@ pub use expand::expand;
 #[cfg(feature = "std")]
 pub use expand::expand_to;
 pub use expand::{ExpandError, expand_into};
-pub use kept::Kept;
+pub use kept::{Kept, SendError};
 pub use kit::AllocError;
 pub use message::Message;
 /// A string of an entry that is parsed, with its exact limits over all parameters.

@@ -5,7 +5,7 @@ use crate::made::draft::EncodeError;
 use crate::made::entry::{ReadError, ReadFault};
 use crate::made::kept::CompileError;
 use crate::made::pad::{PadError, PadIntoError};
-use crate::ExpandError;
+use crate::{ExpandError, SendError};
 use core::fmt;
 
 /// What a fault says to a person, in one sentence without a full stop at its end.
@@ -62,6 +62,10 @@ assert_eq!(fault.message().to_string(), \"a string holds a NUL\");",
     ExpandError: "let fault = ti_terminfo::ExpandError::OutTooSmall { need: 26 };
 assert_eq!(fault.to_string(), \"OutTooSmall 26\");
 assert_eq!(fault.message().to_string(), \"the slice has less than the 26 bytes that may be written\");",
+    SendError: "let fault = ti_terminfo::Kept::compile(b\"%p1%d\").unwrap()
+    .send_into(&[7], &mut ti_terminfo::Vars::new(), &ti_terminfo::Padding::default(), &mut [0; 9]).unwrap_err();
+assert_eq!(fault.to_string(), \"OutTooSmall 11\");
+assert_eq!(fault.message().to_string(), \"the slice has less than the 11 bytes that may be written\");",
     PadError: "let fault = ti_terminfo::PadError::Memory;
 assert_eq!(fault.to_string(), \"Memory\");
 assert_eq!(fault.message().to_string(), \"memory was refused\");",
@@ -146,6 +150,16 @@ impl Says for ExpandError {
             ExpandError::TextTooLong { parameter } => write!(f, "the string of parameter {parameter} has more than 32767 bytes"),
             ExpandError::OutTooSmall { need } => write!(f, "the slice has less than the {need} bytes that may be written"),
             ExpandError::Memory => f.write_str(NO_MEMORY),
+        }
+    }
+}
+
+impl Says for SendError {
+    fn say(&self, f: &mut fmt::Formatter<'_>) -> fmt::Result {
+        match *self {
+            SendError::TooManyParameters { given } => ExpandError::TooManyParameters { given }.say(f),
+            SendError::OutTooSmall { need } => ExpandError::OutTooSmall { need }.say(f),
+            SendError::TooMuch { need } => PadError::TooMuch { need }.say(f),
         }
     }
 }

@@ -118,6 +118,34 @@ fn a_compiled_conditional_chooses_anew_each_time() {
 }
 
 #[test]
+fn a_compiled_capability_is_sent_with_its_pad_bytes() {
+    let marked = Kept::compile(b"%p1%Pa%p1%d$<5>").unwrap();
+    let slow = Padding::new(1000, 1, false, b'.').unwrap();
+    let (mut vars, mut out) = (Vars::new(), [0; 32]);
+    for (padding, sent) in [(&slow, &b"7....."[..]), (&Padding::default(), b"7")] {
+        let written = marked.send_into(&[7], &mut vars, padding, &mut out).unwrap();
+        assert_eq!((&out[..written], vars.get(b'a')), (sent, Some(7)));
+    }
+    // The output has 5 bytes, and the padded output 6.
+    let mut short = [0; 11 + 4];
+    assert_eq!(marked.send_into(&[12345678], &mut vars, &slow, &mut short), Err(SendError::OutTooSmall { need: 12 + 13 }));
+    assert_eq!(marked.send_into(&[8], &mut vars, &slow, &mut [0; 14]), Err(SendError::OutTooSmall { need: 15 }));
+    assert_eq!(marked.send_into(&[8; 10], &mut vars, &slow, &mut out), Err(SendError::TooManyParameters { given: 10 }));
+    assert_eq!(vars.get(b'a'), Some(7));
+    let marks = b"$<99999>".repeat(8);
+    let long = Kept::compile(&marks).unwrap();
+    let fast = Padding::new(1_000_000, 1, false, 0).unwrap();
+    assert_eq!(long.send_into(&[], &mut vars, &fast, &mut [0; 64]), Err(SendError::TooMuch { need: 799_992_000 }));
+    // A mark that the numbers make is padded too, and without one the output is what is sent.
+    let made = Kept::compile(b"%p1%c<5>").unwrap();
+    let written = made.send_into(&[36], &mut vars, &slow, &mut out).unwrap();
+    assert_eq!(&out[..written], b".....");
+    let written = made.send_into(&[35], &mut vars, &slow, &mut out).unwrap();
+    assert_eq!(&out[..written], b"#<5>");
+    assert_eq!(made.send_into(&[35], &mut vars, &slow, &mut out[..7]), Err(SendError::OutTooSmall { need: 8 }));
+}
+
+#[test]
 fn errors_print_their_name_and_place() {
     assert_eq!(Capability::parse(b"ab%p0").unwrap_err().to_string(), "BadParameter at 2");
     assert_eq!(Entry::read(b"\x1a\x01").unwrap_err().to_string(), "Truncated at 2");

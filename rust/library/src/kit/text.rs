@@ -36,10 +36,6 @@ impl<A: Allocator> String<A> {
         &self.text
     }
 
-    pub fn as_bytes(&self) -> &[u8] {
-        self.text.as_bytes()
-    }
-
     pub fn is_empty(&self) -> bool {
         self.text.is_empty()
     }
