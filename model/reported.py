@@ -11,6 +11,7 @@ The words are effects of docs/effects.tsv, and
 
 By default effects and `string-open` are reported, and of a stranger's entry all.
 """
+import re
 from collections.abc import Callable, Iterable
 
 from capability import Refused, tokens_of
@@ -28,6 +29,10 @@ NOT_SENT = {
 JOINED = {"tsl", "TS", "Swd"}
 # Strings of which bytes are judged one by one, and the bytes that act. ST alone does nothing.
 BY_BYTES = {"acsc", "pad"}
+# Strings that program keys, by DECUDK on some terminals; and the forms of those that have the second parameter alone as their data.
+KEYS = {"pfkey", "pfloc", "pfx", "pfxl", "pln"}
+CLIPBOARD = re.compile(rb"\x1b\]52;(%p1%s|[a-z]*);%p2%s(\x07|\x1b\\|\x9c)")
+KEY = re.compile(rb"[^/]*/%p2%s(\x07|\x1b\\|\x9c)")
 SHOWN_BYTES = {5, 0x0E, 0x0F, 0x1B, *range(0x80, 0xA0)} - {0x9C}
 # What is reported by default, and the kinds of functions that only a terminal of ECMA-48 has.
 DEFAULT = {row.what for row in EFFECTS} | {"string-open"}
@@ -71,6 +76,16 @@ def words_of_bytes(name: str, text: bytes) -> set[tuple[str, str]]:
     """Of the characters of acsc, and of the pad character."""
     bytes_shown = SHOWN_BYTES & {*(text[1::2] if name == "acsc" else text[:1])}
     return {("answer" if byte == 5 else "unknown-function", f"Control/{byte:02x}") for byte in bytes_shown}
+
+
+def asked_name(name: str, text: bytes, is_untrusted: bool) -> str:
+    """The name by which the tables are asked. Of a stranger's entry it is none if the terminal keeps what the entry has in the place of
+    the second parameter, as the data of the clipboard, or as what a key gets."""
+    if is_untrusted and name == "Ms":
+        return name if CLIPBOARD.fullmatch(text) else ""
+    if is_untrusted and name in KEYS:
+        return name if KEY.fullmatch(text) and b"%c" not in text else ""
+    return name
 
 
 def words_of(name: str, capabilities: Iterable[bytes]) -> set[tuple[str, str]]:

@@ -1,15 +1,18 @@
 -- What is reported of what strings make a terminal do: if it is nothing, they keep to the table.
-use Rattle.std.proofs.Common.{◌≡◌, ◌∙◌, ◌&&◌, ◌<◌, ◌≤◌, arith, ℕ, Bool, true, false, List, [], ◌∷◌, ◌++◌, ap, ap₂, cond, drop, filter, length, refl, subst, sym, take, true≢false}
+use Rattle.std.proofs.Common.{◌≡◌, ◌∙◌, ◌<◌, ◌≤◌, arith, ℕ, Bool, true, false, List, [], ◌∷◌, ◌++◌, ap, ap₂, cond, drop, filter, length, refl, subst, sym, take, true≢false}
 use Rattle.std.specs.List.{AllByRecursion, flat_map}
-use Rattle.std.specs.Prelude.{codes}
+use Rattle.std.specs.Prelude.{◌==◌, codes}
 use Rattle.std.proofs.Math.Seq.{drop-append_seam, take-append_seam}
 use Rattle.std.proofs.lemmas.List.{append-nil, take-append-drop}
 use Rattle.ti_allow.specs.Harmless.{IsSilent}
+use Rattle.ti_allow.specs.declared.effect.Effect.TheVariants.{Answer}
+use Rattle.ti_words.specs.Texts.{TextValue}
 use Rattle.ti_words.specs.Value.{EntryValue}
 use Rattle.ti_report.specs.Controls.{AreControlRemarks, AreControls, AreControlsBy, AreControlsOf, AreOnLooks, AreUnknownControls, HasNoControl, IsControl, KeepsToTable, Look, all_looks, bytes_of_known, bytes_of_unknown, folded, folded_by, folds, is_ecma_entry, looked_at, looked_count, looks_of, name_of_known, name_of_unknown, names_left, on_left, spaced, unknown_looks}
 use Rattle.ti_lint.specs.declared.lint_options.LintOptions.{LintOptions}
 use Rattle.ti_report.specs.Findings.{is_control, is_harm}
-use Rattle.ti_report.specs.Lines.{AreAll, InTurn}
+use Rattle.ti_report.specs.Lines.{AreAll}
+use Rattle.ti_report.specs.Own.{acting_finding, acting_of, on_acting, own_remarks}
 use Rattle.ti_report.specs.Remarks.{Count, OfEntry, Remark, unmarked}
 use Rattle.ti_report.specs.Reported.{harmful, reported}
 use Rattle.ti_report.specs.Reports.{AreRemarks, IsReport, OnlyTable}
@@ -51,6 +54,28 @@ pub record Tells (looks : List Look) (remarks : List Remark) : Type 0 where
 
 tells : (looks : List Look) (remarks : List Remark) → AreOnLooks true looks remarks → Tells looks remarks
 tells looks remarks on = record { controls = on.controls; silent = λ silent. on.silent refl silent }
+
+-- what the rules of its own say of a string is a finding of harm
+acting_is : (byte : ℕ) → is_control (acting_finding byte) ≡ true
+acting_is byte = by (byte == 0x05)
+  where
+    by : (b : Bool) → is_control (cond b (Control Answer) UnknownFunction) ≡ true
+    by true = refl
+    by false = refl
+
+acting_controls : (name text left : List ℕ) → AreControls (on_acting name text left)
+acting_controls name text [] = tt
+acting_controls name text (byte ∷ rest) = (acting_is byte, tt)
+
+own_controls : (untrusted : Bool) (name text : List ℕ) → AreControls (own_remarks untrusted name text)
+own_controls true name text = acting_controls name text (acting_of name text)
+own_controls false name text = tt
+
+tells_of : (end : TextValue) (t : KnownText) (remarks : List Remark) → AreControlsOf true end t remarks → Tells (looks_of true end t) remarks
+tells_of end t remarks (one, more, on, own, joins) = record {
+  controls = subst AreControls (sym joins) (both IsControl one more on.controls (subst AreControls (sym own) (own_controls true t.name t.text)));
+  silent = λ silent. on.silent refl (silent_left one more (subst IsSilent joins silent));
+}
 
 tells_none : (remarks : List Remark) → remarks ≡ [] → Tells [] remarks
 tells_none remarks none = record { controls = subst (AllByRecursion IsControl) (sym none) tt; silent = λ silent. tt }
@@ -135,8 +160,8 @@ tells_by v found (one, rest, known, (two, three, unknown, are_left, last), joins
     let end = text_named v (codes "fsl") in
     let kn = known_texts v in
     let un = unknown_texts v in
-    let first = tells_all (AreControlsOf true end) (looks_of end) (λ t. tells (looks_of end t)) (looked_at bytes_of_known kn) one known in
-    let second = tells_all (AreUnknownControls true) unknown_looks (λ u. tells (unknown_looks u)) (looked_at bytes_of_unknown un) two unknown in (
+    let first = tells_all (AreControlsOf true end) (looks_of true end) (tells_of end) (looked_at bytes_of_known kn) one known in
+    let second = tells_all (AreUnknownControls true) (unknown_looks true) (λ u. tells (unknown_looks true u)) (looked_at bytes_of_unknown un) two unknown in (
       subst AreControls (sym joins)
           (both IsControl one rest first.controls (subst AreControls (sym last) (both IsControl two three second.controls (subst AreControls (sym are_left) (left_controls true (names_left v)))))),
       λ silent.
@@ -145,9 +170,9 @@ tells_by v found (one, rest, known, (two, three, unknown, are_left, last), joins
           let names = none_left true (names_left v) (subst IsSilent are_left (silent_right two three parts)) in
           let no_known = no_names name_of_known (drop (looked_count bytes_of_known kn) kn) (first_none _ _ names) in
           let no_unknown = no_names name_of_unknown (drop (looked_count bytes_of_unknown un) un) (last_none _ _ names) in
-          let Known : List KnownText → Type 0 = λ ts. AllByRecursion KeepsToTable (flat_map (looks_of end) ts) in
-          let Unknown : List UnknownText → Type 0 = λ us. AllByRecursion KeepsToTable (flat_map unknown_looks us) in
-          both KeepsToTable (flat_map (looks_of end) kn) (flat_map unknown_looks un)
+          let Known : List KnownText → Type 0 = λ ts. AllByRecursion KeepsToTable (flat_map (looks_of true end) ts) in
+          let Unknown : List UnknownText → Type 0 = λ us. AllByRecursion KeepsToTable (flat_map (unknown_looks true) us) in
+          both KeepsToTable (flat_map (looks_of true end) kn) (flat_map (unknown_looks true) un)
           (subst Known (all_taken (looked_count bytes_of_known kn) kn no_known) (first.silent (silent_left one rest (subst IsSilent joins silent))))
           (subst Unknown (all_taken (looked_count bytes_of_unknown un) un no_unknown) (second.silent (silent_left two three parts))),
     )

@@ -1,14 +1,11 @@
 -- An entry has one report.
-use Rattle.std.proofs.Common.{◌≡◌, ◌∙◌, ◌⊎◌, ◌↔◌, ◌++◌, ℕ, suc, Bool, true, false, List, [], ◌∷◌, Option, Some, None, ap, ap₂, arith, inl, inr, length, map, refl, subst, sym, take}
-use Rattle.std.specs.Prelude.{◌==◌, codes}
-use Rattle.serde_json.specs.Data.{Data}
+use Rattle.std.proofs.Common.{◌≡◌, ◌∙◌, ◌⊎◌, ◌↔◌, ◌++◌, ℕ, suc, Bool, true, false, List, [], ◌∷◌, Option, Some, None, ap, ap₂, arith, inl, inr, map, refl, subst, sym, take}
+use Rattle.std.specs.Prelude.{codes}
 use Rattle.ti_cap.specs.declared.language.CapRefused.{CapRefused}
 use Rattle.ti_cap.specs.Refusal.{IsFaultless, IsRefusal}
 use Rattle.ti_cap.proofs.OneRefusalLemmas.{one_refusal}
-use Rattle.ti_escape.specs.declared.color.Color.{Color}
 use Rattle.ti_lint.specs.declared.token_finding.TokenFinding.{TokenFinding}
 use Rattle.ti_lint.specs.declared.placed_finding.PlacedFinding.{PlacedFinding}
-use Rattle.ti_lint.specs.declared.lint_options.LintOptions.{LintOptions}
 use Rattle.ti_lint.specs.declared.variables.Variables.{Variables}
 use Rattle.ti_lint.proofs.OneFoundLemmas.{one_found}
 use Rattle.ti_lint.proofs.OneSetLemmas.{one_parameter_set, one_variables}
@@ -32,7 +29,6 @@ use Rattle.ti_report.specs.declared.usage.Usage.{Usage}
 use Rattle.ti_report.specs.declared.finding.Finding.{Finding}
 use Rattle.ti_report.specs.declared.finding.Finding.TheVariants as findings
 use Rattle.ti_report.specs.Actions.{action_remarks}
-use Rattle.ti_report.specs.Blocks.{report_lines}
 use Rattle.ti_report.specs.Controls.{bytes_of_known, bytes_of_unknown, looked_at}
 use Rattle.ti_report.specs.Crashes.{AreDivisionRemarks, AreDivisionsIf, AreDivisionsIn, AreDivisionsOf, AreUnknownDivisions, range_in, rows_of}
 use Rattle.ti_report.specs.Keys.{AreKeyRemarks, entry_keys}
@@ -45,14 +41,13 @@ use Rattle.ti_report.proofs.CrashesLemmas.{one_crashes}
 use Rattle.ti_report.proofs.NameBytesLemmas.{one_end}
 use Rattle.ti_report.specs.Names.{AreNameRemarks, IsNameReport}
 use Rattle.ti_report.specs.declared.names.NameKind.TheVariants.{Alias}
-use Rattle.ti_report.specs.Objects.{remark_object}
 use Rattle.ti_report.specs.Remarks.{Evidence, NoEvidence, Remark, TextRemark, placed, with_name}
 use Rattle.ti_report.specs.Reports.{AreRemarks, AreTextRemarks, HasOneReport, IsTextReport}
 use Rattle.ti_report.specs.Origins.{AreOriginRemarks, AreOriginsBeside, AreOriginsIn, AreOriginsOf, IsOriginOf, IsOriginReport, IsSentAtOrigin, IsSentIfShort, Motion, origin_remarks}
 use Rattle.ti_report.specs.Pairs.{all_pair_remarks}
 use Rattle.ti_report.specs.Reported.{reported}
 use Rattle.ti_report.specs.Sequences.{AreSequenceRemarks, IsSequenceIn, IsSequenceOf}
-use Rattle.ti_report.specs.Subjects.{KnownText, UnknownText, known_texts, unknown_texts}
+use Rattle.ti_report.specs.Subjects.{KnownText, known_texts, unknown_texts}
 use Rattle.ti_report.specs.Texts.{IsCapabilityReport, IsEscapeReport, IsFindingReport, IsFindingsReport, IsJudged, IsJudgedAs, IsKeyReport, IsPercentReport, IsPlacesReport, IsPlainReport, IsUnusedReport, all_findings, empty_key, evidence_of, expected_in, unused_remarks, usage_of}
 use Rattle.ti_report.specs.Values.{AreAttributesRemarks, AreNumbersRemarks, AreValueRemarks, IsNamedTriedReport, IsNumbersReport, IsRangeReport, IsShortReport, IsRemarkOf, IsTriedReport, IsTriedReportOf, IsUnendedReport, Trial, is_ansi_entry, remark_of, sent_evidence, text_named, unended_finding}
 use Rattle.ti_report.specs.Whole.{whole_remarks}

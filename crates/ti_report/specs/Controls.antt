@@ -1,5 +1,5 @@
 -- What the strings of an entry make a terminal do, held against the table of what they may.
-use Rattle.std.specs.Prelude.{◌≡◌, ◌⊎◌, ◌-◌, ℕ, suc, ◌||◌, ◌&&◌, Bool, true, false, not, List, [], ◌∷◌, ◌++◌, codes, drop, length, map, nat_lt, Option, Some, None, if◌then◌else◌, take}
+use Rattle.std.specs.Prelude.{◌≡◌, ◌-◌, ℕ, suc, ◌||◌, ◌&&◌, Bool, true, false, not, List, [], ◌∷◌, ◌++◌, codes, drop, length, map, nat_lt, if◌then◌else◌, take}
 use Rattle.std.specs.List.{AllByRecursion, flat_map, list_any}
 use Rattle.std.specs.Str.{bytes_eq}
 use Rattle.ti_allow.specs.Harmless.{IsSilent, OnlyTableAlways, PlainOnlyTable}
@@ -14,10 +14,10 @@ use Rattle.ti_names.specs.declared.class.Class.{Class}
 use Rattle.ti_names.specs.declared.class.Class.TheVariants as classes
 use Rattle.ti_words.specs.Texts.{TextOf, TextValue}
 use Rattle.ti_words.specs.Value.{EntryValue}
-use Rattle.ti_report.specs.declared.finding.Finding.{Finding}
 use Rattle.ti_report.specs.declared.finding.Finding.TheVariants.{NotAllTried, NotEcma}
 use Rattle.ti_report.specs.Findings.{is_control}
 use Rattle.ti_report.specs.Lines.{AreAll, InTurn}
+use Rattle.ti_report.specs.Own.{asked_name, own_remarks}
 use Rattle.ti_report.specs.Reported.{is_all}
 use Rattle.ti_report.specs.Remarks.{Count, Evidence, Named, NoEvidence, OfEntry, Remark, unmarked}
 use Rattle.ti_report.specs.Subjects.{KnownText, UnknownText, known_texts, unknown_texts}
@@ -48,7 +48,7 @@ pub data Sending : Type 0 where
   Expanded : List ℕ → Sending
   AsItStands : List ℕ → Sending
 
--- a string that is looked at: its name, and how it is sent
+-- a string that is looked at: the name by which the table is asked, and how it is sent
 pub record Look : Type 0 where
   pub name : List ℕ
   pub sending : Sending
@@ -69,25 +69,28 @@ abbrev pub plain_sending : TextValue → List ℕ → List ℕ → Sending
 plain_sending (TextOf end) name text = if takes_title name then Expanded (with_title (doubled text) end) else AsItStands text
 plain_sending end name text = AsItStands text
 
-abbrev pub look : List ℕ → Sending → Look
-look name sending = record { name = name; sending = sending }
+abbrev pub asked : List ℕ → Sending → Look
+asked name sending = record { name = name; sending = sending }
+
+abbrev pub look : Bool → List ℕ → List ℕ → Sending → Look
+look untrusted name text sending = asked (asked_name untrusted name text) sending
 
 -- a string of a class, if it is sent
-abbrev pub looks_in : Bool → TextValue → Class → List ℕ → List ℕ → List Look
-looks_in true end classes.Plain name text = look name (plain_sending end name text) ∷ []
-looks_in true end (classes.Parameterized parameters) name text = look name (Expanded (titled end name text)) ∷ []
-looks_in sent end class name text = []
+abbrev pub looks_in : Bool → Bool → TextValue → Class → List ℕ → List ℕ → List Look
+looks_in untrusted true end classes.Plain name text = look untrusted name text (plain_sending end name text) ∷ []
+looks_in untrusted true end (classes.Parameterized parameters) name text = look untrusted name text (Expanded (titled end name text)) ∷ []
+looks_in untrusted sent end class name text = []
 
-abbrev pub looks_of : TextValue → KnownText → List Look
-looks_of end t = looks_in (is_sent t.name) end t.class t.name t.text
+abbrev pub looks_of : Bool → TextValue → KnownText → List Look
+looks_of untrusted end t = looks_in untrusted (is_sent t.name) end t.class t.name t.text
 
 -- of a string of which nothing is known: a program may expand it, or send it as it stands
-abbrev pub unknown_looks : UnknownText → List Look
-unknown_looks u = look u.name (Expanded u.text) ∷ look u.name (AsItStands u.text) ∷ []
+abbrev pub unknown_looks : Bool → UnknownText → List Look
+unknown_looks untrusted u = look untrusted u.name u.text (Expanded u.text) ∷ look untrusted u.name u.text (AsItStands u.text) ∷ []
 
--- all that are looked at
+-- all that are looked at in the entry of a stranger
 abbrev pub all_looks : EntryValue → List Look
-all_looks v = flat_map (looks_of (text_named v (codes "fsl"))) (known_texts v) ++ flat_map unknown_looks (unknown_texts v)
+all_looks v = flat_map (looks_of true (text_named v (codes "fsl"))) (known_texts v) ++ flat_map (unknown_looks true) (unknown_texts v)
 
 -- ---- what it may do
 
@@ -113,11 +116,12 @@ pub record AreOnLooks (untrusted : Bool) (looks : List Look) (remarks : List Rem
   pub controls : AreControls remarks
   pub silent : untrusted ≡ true → IsSilent remarks → AllByRecursion KeepsToTable looks
 
+-- and of a string that has a rule of its own, what that says
 abbrev pub AreControlsOf : Bool → TextValue → KnownText → List Remark → Type 0
-AreControlsOf untrusted end t = AreOnLooks untrusted (looks_of end t)
+AreControlsOf untrusted end t = InTurn (AreOnLooks untrusted (looks_of untrusted end t)) (λ all. all ≡ own_remarks untrusted t.name t.text)
 
 abbrev pub AreUnknownControls : Bool → UnknownText → List Remark → Type 0
-AreUnknownControls untrusted u = AreOnLooks untrusted (unknown_looks u)
+AreUnknownControls untrusted u = AreOnLooks untrusted (unknown_looks untrusted u)
 
 -- ---- all texts
 

@@ -9,6 +9,7 @@ pub mod Marks
 pub mod Lines
 pub mod Constants
 pub mod Controls
+pub mod Own
 pub mod Crashes
 pub mod ConstantLaws
 pub mod Texts

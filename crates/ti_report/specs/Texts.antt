@@ -1,5 +1,5 @@
 -- What is wrong with a text, by how it is used.
-use Rattle.std.specs.Prelude.{Option, Some, None, ◌++◌, nat_lt, ◌≡◌, ◌≢◌, ◌⊎◌, ◌↔◌, ℕ, List, [], ◌∷◌, ◌≤◌, ◌%◌, ◌==◌, ◌&&◌, ◌||◌, Bool, AllPairs, Contains, codes, if◌then◌else◌, length}
+use Rattle.std.specs.Prelude.{Option, Some, None, nat_lt, ◌≡◌, ◌≢◌, ◌⊎◌, ◌↔◌, ℕ, List, [], ◌∷◌, ◌≤◌, ◌%◌, ◌==◌, ◌&&◌, ◌||◌, Bool, AllPairs, Contains, codes, if◌then◌else◌, length}
 use Rattle.std.specs.Str.{bytes_eq}
 use Rattle.ti_cap.specs.declared.parameter_set.ParameterSet.{ParameterSet}
 use Rattle.ti_cap.specs.Sources.{Has, IsNamed}

@@ -11,8 +11,8 @@ use Rattle.ti_report.specs.Findings as findings
 use Rattle.ti_report.specs.declared.reported.Head.{Head}
 use Rattle.ti_report.specs.Reported as reports
 use Rattle.ti_report.specs.Controls as controls
-use Rattle.ti_report.specs.declared.controls.Sending.{Sending}
-use Rattle.ti_report.specs.declared.controls.Sending.TheVariants as sendings
+use Rattle.ti_report.specs.declared.sending.Sending.{Sending}
+use Rattle.ti_report.specs.declared.sending.Sending.TheVariants as sendings
 use Rattle.ti_report.specs.Crashes as crashes
 use Rattle.ti_report.specs.declared.crashes.Before.{Before}
 use Rattle.ti_report.specs.declared.subject.KnownText.{KnownText}

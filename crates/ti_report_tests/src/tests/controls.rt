@@ -201,7 +201,16 @@ untrusted | kf1=\E[6n | u8=\E[?1;2c | acsc=\E[6n\E[ => -
 # These stand where they may.
 untrusted | +Sync=\EP=%?%p1%{1}%=%t1%e2%;s\E\\ | +RV=\E[>c | +XR=\E[>q | +fe=\E[?1004h | +Enfcs=\E[?1004h | +Enbp=\E[?2004h => -
 untrusted | +WS=\E[8;%p1%d;%p2%dt | +Hls=\E]8;;%p2%s\E\\ | +Swd=\E]7; | fsl=^G => -
-untrusted | pfkey=\EP1;1|%p1%d/%p2%s\E\\ => -
+untrusted | pfkey=\EP1;1|%p1%d/%p2%s\E\\ | home=\E[H => -
+# What the terminal keeps must be the parameter: the data of the clipboard, and the text of a key.
+untrusted | +Ms=\E]52;%p1%s;%p2%s^G | home=\E[H => -
+untrusted | +Ms=\E]52;c;%p2%s\E\\ | home=\E[H => -
+untrusted | +Ms=\E]52;c;cm0=^G | home=\E[H => Ms clipboard OSC 52 at 12
+untrusted | +Ms=\E]52;c;cm0=%p2%s^G | home=\E[H => Ms clipboard OSC 52 at 17
+untrusted | +Ms=\E]52%{59}%cc;%p2%s^G | home=\E[H => Ms clipboard OSC 52 at 19
+untrusted | pfkey=\EP1;1|17/6c730d\E\\ | home=\E[H => pfkey other-control DCS 1;1| at 16
+untrusted | pfx=\EP1;1|17/6c73;18/%p2%s\E\\ | home=\E[H => pfx other-control DCS 1;1| at 23
+untrusted | pfloc=\EP1;1|17%{47}%c6c73/%p2%s\E\\ | home=\E[H => pfloc other-control DCS 1;1| at 26
 # A fault hides no harm. A string that is no capability is looked at as it stands, and so is one without parameters.
 mistakes | setaf=\E[6n%;%p1%d => setaf answer CSI 6n at 4
 mistakes | csr=\E[%i%i%p1%d;%p2%dr\E[6n => csr answer CSI 6n at 23

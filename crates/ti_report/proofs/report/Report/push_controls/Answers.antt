@@ -1,4 +1,4 @@
-use Rattle.std.proofs.Common.{◌≡◌, ◌∙◌, ap}
+use Rattle.std.proofs.Common.{◌∙◌, ap}
 use Rattle.ti_report.specs.Controls.{is_ecma_entry}
 use Rattle.ti_report.proofs.ControlsLemmas.{folded_gains}
 use Rattle.ti_report.proofs.report.Report.push_controls.Goals as goal

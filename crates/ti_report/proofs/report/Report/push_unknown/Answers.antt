@@ -1,7 +1,6 @@
 -- Both ways are looked at, and what is found of either is kept.
-use Rattle.std.proofs.Common.{◌≡◌, ℕ, List, subst, sym}
+use Rattle.std.proofs.Common.{ℕ, List, subst, sym}
 use Rattle.ti_report.specs.Controls.{AreControls, AsItStands, Expanded, Keeps}
-use Rattle.ti_report.specs.Remarks.{Remark}
 use Rattle.ti_report.proofs.report.Report.push_unknown.Goals as goal
 
 pub returns : goal.returns
@@ -16,8 +15,8 @@ returns g c =
         record {
           controls = c.in_ok-add_look-2.ensures.controls (c.in_ok-add_look.ensures.controls (subst AreControls (sym c.new-remarks.ensures.items) tt));
           silent = λ untrusted silent. (
-            subst Expands c.of-look.ensures.0 (c.in_ok-add_look.ensures.keeps untrusted (c.in_ok-add_look-2.ensures.before silent)),
-            (subst Stands c.of-plain.ensures.0 (c.in_ok-add_look-2.ensures.keeps untrusted silent), tt),
+            subst Expands c.of-look.ensures (c.in_ok-add_look.ensures.keeps untrusted (c.in_ok-add_look-2.ensures.before silent)),
+            (subst Stands c.of-plain.ensures (c.in_ok-add_look-2.ensures.keeps untrusted silent), tt),
           );
         },
         is,

@@ -1,12 +1,12 @@
 -- A text that is a capability is not refused, and one that is refused is none.
-use Rattle.std.proofs.Common.{◌≡◌, List, ℕ, subst, sym}
+use Rattle.std.proofs.Common.{List, ℕ, subst, sym}
 use Rattle.ti_allow.specs.Harmless.{OnlyTableAlways}
 use Rattle.ti_allow.specs.declared.allowed.TheConstants.{ALLOWED}
 use Rattle.ti_report.specs.Controls.{Keeps}
-use Rattle.ti_report.specs.declared.controls.Sending.{Sending}
+use Rattle.ti_report.specs.declared.sending.Sending.{Sending}
 use Rattle.ti_report.specs.inner.Held.{sending_held}
 use Rattle.ti_report.proofs.OneReportLemmas.{passes}
-use Rattle.ti_report.proofs.controls.found_in.Goals as goal
+use Rattle.ti_report.proofs.sending.found_in.Goals as goal
 
 pub returns-in_ok-found-in-Ok : goal.returns-in_ok-found-in-Ok
 returns-in_ok-found-in-Ok g c = λ silent.

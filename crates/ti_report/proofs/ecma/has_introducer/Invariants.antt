@@ -1,7 +1,7 @@
 -- The rest has one exactly if all has.
 use Rattle.std.proofs.Common.{◌≡◌, length}
 use Rattle.ti_report.specs.Controls.{has_introducer}
-use Rattle.ti_report.proofs.controls.has_introducer.Given as goal
+use Rattle.ti_report.proofs.ecma.has_introducer.Given as goal
 
 abbrev pub invariant-text : goal.invariant-text
 invariant-text l = has_introducer l.rest ≡ has_introducer l.text

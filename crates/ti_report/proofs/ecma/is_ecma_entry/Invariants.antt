@@ -3,7 +3,7 @@ use Rattle.std.proofs.Common.{◌≡◌, drop}
 use Rattle.std.specs.List.{list_any}
 use Rattle.ti_control.specs.Parts.{texts_of}
 use Rattle.ti_report.specs.Controls.{is_ecma_in}
-use Rattle.ti_report.proofs.controls.is_ecma_entry.Given as goal
+use Rattle.ti_report.proofs.ecma.is_ecma_entry.Given as goal
 
 abbrev pub invariant-names : goal.invariant-names
 invariant-names l =
