@@ -22,6 +22,7 @@ pub fn check_rows<F: Finds>(rt: &(impl Abort + AllocGlobal), rows: &str, finds: 
     }
 }
 
+mod advice;
 mod ending;
 mod failing_streams;
 mod fault_lines;

@@ -17,20 +17,14 @@ use Rattle.ti_line.specs.declared.request.EntryAction.{EntryAction}
 use Rattle.ti_tool.specs.declared.fault.ToolFault.TheVariants as fault
 use Rattle.ti_tool.specs.declared.fault.ToolFault.{ToolFault}
 use Rattle.ti_tool.specs.Calls.{FailsAsDue}
-use Rattle.ti_tool.specs.Advice.{hints}
 use Rattle.ti_tool.specs.declared.extras.Extras.{Extras}
 use Rattle.ti_tool.specs.FaultLines.{IsAnswerLine, Told, fault_line}
 use Rattle.ti_tool.specs.Files.{before_findings, file_line}
 use Rattle.ti_tool.specs.Results.{IsDueOf}
-use Rattle.ti_lint.specs.declared.lint_options.LintOptions.{LintOptions}
-use Rattle.ti_tool.specs.Summaries.{IsSummarized, no_tally}
-use Rattle.ti_tool.specs.declared.summary.Tally.{Tally}
-use Rattle.ti_tool.specs.inner.Tallies.{IsCounted, IsLooked}
-use Rattle.ti_tool.proofs.FileLemmas.{fault_is_high}
-use Rattle.ti_tool.proofs.SummaryLemmas.{counted_none, fault_unlooked}
+use Rattle.ti_tool.specs.Summaries.{IsSummarized}
 use Rattle.ti_tool.specs.Statuses.{status_for}
 use Rattle.ti_line.specs.declared.request.Action.TheVariants.{Entry}
-use Rattle.ti_tool.specs.FileRuns.{AreLookups, Delivered, DidFile, DidFiles, DoneFile, Contents, EndsWithNone, IsLookup, IsOutcome, IsOutcomeOfContents, IsReadFrom, IsSupplied, IsUnread, Job, NoMemory, RanFiles, RanFound, RanInput, Supply, Unread, all_looked, are_several, files_done, greatest_status, line_on_none, lines_on_none, looked}
+use Rattle.ti_tool.specs.FileRuns.{AreLookups, Delivered, DidFile, DidFiles, DoneFile, Contents, EndsWithNone, IsLookup, IsOutcome, IsOutcomeOfContents, IsReadFrom, IsSupplied, IsUnread, Job, NoMemory, RanFiles, RanFound, RanInput, Supply, Unread, are_several, files_done, greatest_status, line_on_none, lines_on_none}
 use Rattle.ti_tool.specs.Streams.{FileName, KnownFiles, Lookup, Stream, Streams, streams}
 
 max_assoc : (a b c : ℕ) → max (max a b) c ≡ max a (max b c)
@@ -107,38 +101,28 @@ found_word known e words i d start several more files all one lines says within 
 -- a fault of a file is what its contents lead to
 pub fault_led : {O F : Type 0} (bytes line : O → List ℕ) (status : O → ℕ) (job : Job) (name contents told said : List ℕ) (why : ToolFault) (code : ℕ) (r : Result O F)
     → FailsAsDue (IsDueOf (before_findings job.are_several name) job.e true contents) why
-    → IsAnswerLine {V = Bool} (hints job.has_advice contents) (Entry job.e) contents (Err why) told → said ≡ told → code ≡ status_for (Err why) → IfOk r (λ o. (bytes o ≡ []) × (line o ≡ file_line name said) × (status o ≡ code))
+    → IsAnswerLine job.has_advice (Entry job.e) why told → said ≡ told → code ≡ status_for (Err why) → IfOk r (λ o. (bytes o ≡ []) × (line o ≡ file_line name said) × (status o ≡ code))
     → IfOk r (λ o. IsOutcomeOfContents job name contents (bytes o) (line o) (status o))
 fault_led bytes line status job name contents told said why code (Ok o) due is same coded (b, l, s) = (Err why, s ∙ coded, (due, b, (told, is, l ∙ ap (file_line name) same)))
 fault_led bytes line status job name contents told said why code (Err f) due is same coded led = tt
 
--- and nothing was looked at in it
-pub fault_unseen : {O F : Type 0} (bytes line : O → List ℕ) (status : O → ℕ) (seen : O → Option Tally) (summary : Option LintOptions) (contents said : List ℕ) (why : ToolFault) (code : ℕ) (r : Result O F)
-    → code ≡ status_for (Err why) → IfOk r (λ o. (bytes o ≡ []) × (line o ≡ said) × (status o ≡ code)) → IfOk r (λ o. seen o ≡ None) → IfOk r (λ o. IsLooked summary (looked (Contents contents) (status o)) (seen o))
-fault_unseen bytes line status seen summary contents said why code (Ok o) is (p, q, same) none = fault_unlooked summary contents (status o) (seen o) (rw (same ∙ is) (fault_is_high why)) none
-fault_unseen bytes line status seen summary contents said why code (Err f) is led none = tt
-
-not_looked : (summary : Option LintOptions) (seen : Option Tally) → seen ≡ None → IsLooked summary [] seen
-not_looked None seen is = tt
-not_looked (Some options) seen is = is
-
-module _ {O F : Type 0} (bytes line : O → List ℕ) (status : O → ℕ) (seen : O → Option Tally) (known : KnownFiles) (job : Job) (file : FileName) (left0 left1 : Option (List ℕ)) where
+module _ {O F : Type 0} (bytes line : O → List ℕ) (status : O → ℕ) (known : KnownFiles) (job : Job) (file : FileName) (left0 left1 : Option (List ℕ)) where
   abbrev pub Led : Result O F → Type 0
-  Led r = IfOk r (λ o. (supply : Supply) × IsSupplied known file left0 left1 supply × IsOutcome job file.name supply (bytes o) (line o) (status o) × IsLooked job.summary (looked supply (status o)) (seen o))
+  Led r = IfOk r (λ o. (supply : Supply) × IsSupplied known file left0 left1 supply × IsOutcome job file.name supply (bytes o) (line o) (status o))
 
   -- its contents are what there is of it
   pub contents_led : (name contents read : List ℕ) (r : Result O F) → name ≡ file.name → file.is_refused ≡ false → IsReadFrom (is_minus name) (known.contents name) left0 left1 read → contents ≡ read
-      → IfOk r (λ o. IsOutcomeOfContents job name contents (bytes o) (line o) (status o)) → IfOk r (λ o. IsLooked job.summary (looked (Contents contents) (status o)) (seen o)) → Led r
-  contents_led name contents read (Ok o) named given from same led looks =
+      → IfOk r (λ o. IsOutcomeOfContents job name contents (bytes o) (line o) (status o)) → Led r
+  contents_led name contents read (Ok o) named given from same led =
       let From : List ℕ → Type 0 = λ n. IsReadFrom (is_minus n) (known.contents n) left0 left1 read in
       let Outcome : List ℕ → Type 0 = λ n. IsOutcomeOfContents job n contents (bytes o) (line o) (status o) in
-      (Contents contents, (given, subst (λ b. IsReadFrom (is_minus file.name) (known.contents file.name) left0 left1 b) (sym same) (subst From named from)), subst Outcome named led, looks)
-  contents_led name contents read (Err f) named given from same led looks = tt
+      (Contents contents, (given, subst (λ b. IsReadFrom (is_minus file.name) (known.contents file.name) left0 left1 b) (sym same) (subst From named from)), subst Outcome named led)
+  contents_led name contents read (Err f) named given from same led = tt
 
   -- nothing is there of it
-  pub unread_led : (name : List ℕ) (r : Result O F) → name ≡ file.name → IfOk r (λ o. IsUnread name (bytes o) (line o) (status o)) → IfOk r (λ o. seen o ≡ None) → Led r
-  unread_led name (Ok o) named led unseen = (Unread, tt, subst (λ (n : List ℕ). IsUnread n (bytes o) (line o) (status o)) named led, not_looked job.summary (seen o) unseen)
-  unread_led name (Err f) named led unseen = tt
+  pub unread_led : (name : List ℕ) (r : Result O F) → name ≡ file.name → IfOk r (λ o. IsUnread name (bytes o) (line o) (status o)) → Led r
+  unread_led name (Ok o) named led = (Unread, tt, subst (λ (n : List ℕ). IsUnread n (bytes o) (line o) (status o)) named led)
+  unread_led name (Err f) named led = tt
 
 -- ---- files that are done
 
@@ -148,52 +132,37 @@ module _ (known : KnownFiles) (job : Job) where
   did_append a b c (x ∷ xs) ys (between, did, rest) q = (between, did, did_append between b c xs ys rest q)
 
   -- a file with this name is done
-  abbrev pub DidOne : FileName → Streams → Streams → Option ℕ → Option Tally → Type 0
-  DidOne file before after answer since =
-      (done : DoneFile) × (done.file ≡ file) × DidFile known job before after answer done × IsLooked job.summary (looked done.supply done.status) since
+  abbrev pub DidOne : FileName → Streams → Streams → Option ℕ → Type 0
+  DidOne file before after answer = (done : DoneFile) × (done.file ≡ file) × DidFile known job before after answer done
 
-  pub did_one : {O F : Type 0} (bytes line : O → List ℕ) (status : O → ℕ) (seen : O → Option Tally) (since : Option Tally) (before after : Streams) (answer : Option ℕ) (file : FileName) (outcome : Result O F) → (is_minus file.name ≡ false → after.left ≡ before.left)
-      → IfOk outcome (λ o. (supply : Supply) × IsSupplied known file before.left after.left supply × IsOutcome job file.name supply (bytes o) (line o) (status o) × IsLooked job.summary (looked supply (status o)) (seen o))
-      → MatchResult outcome (λ o. since ≡ seen o) (λ _. since ≡ None)
+  pub did_one : {O F : Type 0} (bytes line : O → List ℕ) (status : O → ℕ) (before after : Streams) (answer : Option ℕ) (file : FileName) (outcome : Result O F) → (is_minus file.name ≡ false → after.left ≡ before.left)
+      → IfOk outcome (λ o. (supply : Supply) × IsSupplied known file before.left after.left supply × IsOutcome job file.name supply (bytes o) (line o) (status o))
       → MatchResult outcome (λ o. Delivered job.has_advice before.held after.held before.told after.told answer (bytes o) (line o) (status o)) (λ _. Delivered job.has_advice before.held after.held before.told after.told answer [] (fault_line fault.Memory) 6)
-      → DidOne file before after answer since
-  did_one bytes line status seen since before after answer file (Ok o) kept (supply, supplied, led, looks) is delivered = (
-    record { file = file; supply = supply; out = bytes o; line = line o; status = status o },
-    refl,
-    record { supplied = supplied; kept = kept; led = led; delivered = delivered },
-    subst (λ t. IsLooked job.summary (looked supply (status o)) t) (sym is) looks,
-  )
-  did_one bytes line status seen since before after answer file (Err why) kept led is delivered = (
-    record { file = file; supply = NoMemory; out = []; line = fault_line fault.Memory; status = 6 },
-    refl,
-    record { supplied = tt; kept = kept; led = (refl, refl, refl); delivered = delivered },
-    not_looked job.summary since is,
-  )
+      → DidOne file before after answer
+  did_one bytes line status before after answer file (Ok o) kept (supply, supplied, led) delivered =
+      (record { file = file; supply = supply; out = bytes o; line = line o; status = status o }, refl, record { supplied = supplied; kept = kept; led = led; delivered = delivered })
+  did_one bytes line status before after answer file (Err why) kept led delivered =
+      (record { file = file; supply = NoMemory; out = []; line = fault_line fault.Memory; status = 6 }, refl, record { supplied = tt; kept = kept; led = (refl, refl, refl); delivered = delivered })
 
   -- these files are done so far
-  abbrev pub RanSome : List FileName → Streams → Streams → ℕ → Tally → Type 0
-  RanSome files before after status tally =
-      (dones : List DoneFile) × (files ≡ files_done dones) × DidFiles known job before after dones × (status ≡ greatest_status dones) × IsCounted job.summary (all_looked dones) tally
+  abbrev pub RanSome : List FileName → Streams → Streams → ℕ → Type 0
+  RanSome files before after status = (dones : List DoneFile) × (files ≡ files_done dones) × DidFiles known job before after dones × (status ≡ greatest_status dones)
 
-  pub ran_none : (before : Streams) → RanSome [] before before 0 no_tally
-  ran_none before = ([], refl, refl, refl, counted_none job.summary)
+  pub ran_none : (before : Streams) → RanSome [] before before 0
+  ran_none before = ([], refl, refl, refl)
 
-  pub ran_more : (files more : List FileName) (file : FileName) (a b c : Streams) (greatest s new : ℕ) (tally all : Tally) (since : Option Tally) → RanSome files a b greatest tally → DidOne file b c (Some s) since → more ≡ files ++ file ∷ [] → new ≡ max greatest s
-      → ((summary : Option LintOptions) (contents looks : List (List ℕ)) → IsCounted summary contents tally → IsLooked summary looks since → IsCounted summary (contents ++ looks) all) → RanSome more a c new all
-  ran_more files more file a b c greatest s new tally all since (dones, are, did, is, counted) (done, named, one, looks) joined greater adds =
+  pub ran_more : (files more : List FileName) (file : FileName) (a b c : Streams) (greatest s new : ℕ) → RanSome files a b greatest → DidOne file b c (Some s) → more ≡ files ++ file ∷ [] → new ≡ max greatest s → RanSome more a c new
+  ran_more files more file a b c greatest s new (dones, are, did, is) (done, named, one) joined greater =
       let status : s ≡ done.status = one.delivered.0 in (
         dones ++ done ∷ [],
         joined ∙ ap (λ fs. fs ++ file ∷ []) are ∙ ap (λ f. files_done dones ++ f ∷ []) (sym named) ∙ sym (map-append (λ d. d.file) dones (done ∷ [])),
         did_append a b c dones (done ∷ []) did (c, subst (λ (n : ℕ). DidFile known job b c (Some n) done) status one, refl),
         greater ∙ ap (λ n. max n s) is ∙ ap (max (greatest_status dones)) status ∙ sym (greatest-more dones done),
-        subst (λ (x : List (List ℕ)). IsCounted job.summary x all)
-            (ap (λ x. all_looked dones ++ x) (sym (append-nil (looked done.supply done.status))) ∙ sym (flat_map-append (λ d. looked d.supply d.status) dones (done ∷ [])))
-            (adds job.summary (all_looked dones) (looked done.supply done.status) counted looks),
       )
 
-  pub ran_stops : (files all rest : List FileName) (file : FileName) (a b c : Streams) (greatest new : ℕ) (tally : Tally) (since : Option Tally) → RanSome files a b greatest tally → DidOne file b c None since → all ≡ (files ++ file ∷ []) ++ rest → new ≡ max greatest 5
+  pub ran_stops : (files all rest : List FileName) (file : FileName) (a b c : Streams) (greatest new : ℕ) → RanSome files a b greatest → DidOne file b c None → all ≡ (files ++ file ∷ []) ++ rest → new ≡ max greatest 5
       → RanFound known job all a c new
-  ran_stops files all rest file a b c greatest new tally since (dones, are, did, is, counted) (done, named, one, looks) split greater =
+  ran_stops files all rest file a b c greatest new (dones, are, did, is) (done, named, one) split greater =
       inr (
         dones,
         done,
@@ -205,9 +174,8 @@ module _ (known : KnownFiles) (job : Job) where
         greater ∙ ap (λ n. max n 5) is,
       )
 
-  pub ran_all : (files : List FileName) (a b c : Streams) (greatest : ℕ) (tally : Tally) → RanSome files a b greatest tally
-      → ((contents : List (List ℕ)) → IsCounted job.summary contents tally → IsSummarized job.summary contents b c) → RanFound known job files a c greatest
-  ran_all files a b c greatest tally (dones, are, did, is, counted) sums = inl (dones, b, are, did, sums (all_looked dones) counted, is)
+  pub ran_all : (files : List FileName) (a b c : Streams) (greatest : ℕ) → RanSome files a b greatest → IsSummarized job.summary b c → RanFound known job files a c greatest
+  ran_all files a b c greatest (dones, are, did, is) sums = inl (dones, b, are, did, sums, is)
 
 -- files that words name are done
 pub ran_files : (known : KnownFiles) (extras : Extras) (e : EntryAction) (words : List (List ℕ)) (founds : List Lookup) (files : List FileName) (several : Bool) (lines : List ℕ) (before between after : Streams) (code status : ℕ)

@@ -1,5 +1,5 @@
 -- Where no fault is due but one that comes after memory was taken.
-use Rattle.std.proofs.Common.{◌≡◌, ◌⊎◌, ℕ, ◌<◌, ◌≤◌, List, length, Ok, Err, Some, None, inl, inr, sym, ap, subst, ◌∙◌, arith}
+use Rattle.std.proofs.Common.{◌≡◌, ◌⊎◌, ℕ, ◌<◌, ◌≤◌, List, length, Ok, Err, Some, None, inl, inr, sym, ap, refl, subst, ◌∙◌, arith}
 use Rattle.std.specs.Prelude.{Option, Result, IfOk, IfErr, IsErrAnd, MatchResult, ◌↔◌}
 use Rattle.ti_base.specs.Limits.{most_padded_bytes}
 use Rattle.ti_words.specs.Items.{ItemValue}
@@ -13,7 +13,9 @@ use Rattle.ti_cap.specs.Refusal.{IsFaultless, IsRefusal}
 use Rattle.ti_expand.specs.declared.values.Value.{Value}
 use Rattle.ti_expand.specs.Expands.{IsFirstTooLong}
 use Rattle.ti_line.specs.declared.options.TraceForm.{TraceForm}
-use Rattle.ti_trace.specs.Faults.{CanBeTraced}
+use Rattle.ti_trace.specs.Faults.{CanBeTraced, IsTraceFault}
+use Rattle.ti_trace.specs.declared.fault.TraceFault.{TraceFault}
+use Rattle.ti_trace.specs.declared.fault.TraceFault.TheVariants as traces
 use Rattle.ti_pad.specs.Setting.{Setting}
 use Rattle.ti_pad.specs.Padded.{padded_text}
 use Rattle.ti_entry.proofs.SpellsAtMostOneLemmas.{at_most_one}
@@ -21,7 +23,7 @@ use Rattle.ti_entry.proofs.SpelledExtendedLemmas.{only}
 use Rattle.ti_line.specs.declared.options.Output.{Output}
 use Rattle.ti_tool.specs.declared.fault.ToolFault.{ToolFault}
 use Rattle.ti_tool.specs.declared.fault.ToolFault.TheVariants as fault
-use Rattle.ti_tool.specs.Calls.{FailsAsDue, NeedsMemory}
+use Rattle.ti_tool.specs.Calls.{FailsAsDue, NeedsMemory, trace_fault}
 use Rattle.ti_tool.specs.ItemNames.{IsItemCalled}
 use Rattle.ti_tool.specs.declared.item_name.Names.{Names}
 use Rattle.ti_line.specs.Options.{output_bytes}
@@ -55,6 +57,12 @@ traced_needs parameters form input can e d = absurd (can e d)
 
 pub traced_memory : (parameters : List Value) (form : TraceForm) (input : List ℕ) → CanBeTraced input parameters → NeedsMemory (IsTraced parameters form input)
 traced_memory parameters form input can = traced_needs parameters form input (expandable input parameters can.0 can.1)
+
+-- a trace that is refused fails as is due
+pub traced_fails : (parameters : List Value) (form : TraceForm) (input : List ℕ) (why : TraceFault) → IsTraceFault input parameters why → FailsAsDue (IsTraced parameters form input) (trace_fault why)
+traced_fails parameters form input traces.Memory can = inl (refl, traced_memory parameters form input can)
+traced_fails parameters form input (traces.Cap refused) is = inr is
+traced_fails parameters form input (traces.TextTooLong which) is = inr is
 
 -- ---- what the parts of a call answer
 

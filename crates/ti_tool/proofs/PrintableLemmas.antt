@@ -1,12 +1,10 @@
--- Results under `--escape` are printable lines, as many as are due.
-use Rattle.std.proofs.Common.{◌≡◌, ◌≤◌, ◌∙◌, ◌+◌, ℕ, Bool, true, false, List, [], ◌∷◌, ◌++◌, Some, inl, inr, refl, sym, ap, ap₂, subst, arith, append_assoc}
-use Rattle.ti_words.specs.Items.{ExtendedSubject, FlagItem, ItemValue, Listed, NumberItem, StandardSubject, SubjectValue, TextItem, items, text_in}
-use Rattle.std.specs.Prelude.{Option, None, Ok, option_and_then, ◌⊎◌, codes, decimal, if◌then◌else◌}
-use Rattle.std.specs.List.{flat_map, list_all}
+-- Results under `--escape` and documents of JSON are pages.
+use Rattle.std.proofs.Common.{◌≡◌, ◌∙◌, ℕ, Bool, true, false, List, [], ◌∷◌, ◌++◌, Some, inl, inr, refl, sym, ap, subst}
+use Rattle.ti_words.specs.Items.{ExtendedSubject, FlagItem, ItemValue, NumberItem, StandardSubject, SubjectValue, TextItem, text_in}
+use Rattle.std.specs.Prelude.{Option, None, Ok, option_and_then, ◌==◌, codes, decimal, if◌then◌else◌}
+use Rattle.std.specs.List.{list_all}
 use Rattle.std.specs.Fmt.{signed_decimal}
-use Rattle.std.proofs.lemmas.Bool.{and_from}
-use Rattle.std.proofs.lemmas.Grind.{flat_map-append}
-use Rattle.std.proofs.lemmas.List.{append-nil, length-append}
+use Rattle.std.proofs.lemmas.Bool.{and_from, and_parts}
 use Rattle.std.proofs.lemmas.List.Folds.{list_all-append}
 use Rattle.ti_words.specs.declared.Kind.TheVariants as kinds
 use Rattle.ti_words.specs.Texts.{AbsentText, CancelledText, TextOf}
@@ -19,6 +17,8 @@ use Rattle.ti_escape.specs.declared.form.Form.{Form}
 use Rattle.ti_escape.specs.declared.form.Form.TheVariants as forms
 use Rattle.ti_escape.proofs.PrintableLemmas.{has_no_space, is_printable_all, label_chars_printable}
 use Rattle.ti_pad.specs.Padded.{padded_text}
+use Rattle.ti_sink.specs.Pages.{is_plain}
+use Rattle.ti_line.specs.CommandLine.{is_minus}
 use Rattle.ti_line.specs.declared.options.ListOptions.{ListOptions}
 use Rattle.ti_line.specs.declared.options.NameForm.{NameForm}
 use Rattle.ti_line.specs.declared.options.Naming.{Naming}
@@ -26,16 +26,17 @@ use Rattle.ti_line.specs.declared.options.NameForm.TheVariants as name_forms
 use Rattle.ti_line.specs.declared.given.Given.{Given}
 use Rattle.ti_line.specs.declared.options.Output.{Output}
 use Rattle.ti_line.specs.declared.options.Output.TheVariants as outputs
-use Rattle.ti_line.specs.declared.options.Verdicts.{Verdicts}
-use Rattle.ti_line.specs.declared.options.Verdicts.TheVariants.{All, Faults}
+use Rattle.ti_line.specs.declared.request.EntryAction.{EntryAction}
+use Rattle.ti_line.specs.declared.request.EntryAction.TheVariants as of_entry
+use Rattle.ti_line.specs.declared.request.Get.{Get}
 use Rattle.ti_pad.specs.Setting.{Setting}
 use Rattle.ti_tool.proofs.UnfitLemmas.{fit_output}
-use Rattle.ti_tool.specs.Got.{IsTextResult, IsValueResult, number_or_none, number_result}
+use Rattle.ti_tool.specs.Got.{IsTextResult, IsValueResult, number_or_none}
 use Rattle.ti_listing.specs.Labels.{extended_label, names_in_form, subject_label, subject_word}
 use Rattle.ti_json.specs.Rows.{ContentValue, HasFault, HasFormat, HasLimits, HasNames, HasNumber, HasText, InState, IsSet, OfCapability, OfFormat, OfNames, RowValue, TopicValue, entry_rows, is_absent}
 use Rattle.ti_listing.specs.Listing.{content_words, entry_lines, row_line, row_lines, topic_label}
 use Rattle.serde_json.specs.Data.{Data}
-use Rattle.ti_tool.specs.Verdicts.{AreRows, HasRows, is_written, written}
+use Rattle.ti_tool.specs.Verdicts.{written}
 use Rattle.ti_json.proofs.TextLemmas.{IsText, both, decimal_text, label_text, signed_text}
 use Rattle.ti_json.proofs.PlainLemmas.{HavePlain, array_is_text, entry_is_text, fault_text, format, json_is_text, rows_are_plain, state_text}
 use Rattle.ti_names.specs.AllNames.{front}
@@ -43,35 +44,27 @@ use Rattle.ti_json.specs.Objects.{array_text, text_json}
 use Rattle.ti_line.specs.declared.options.Document.{Document}
 use Rattle.ti_line.specs.declared.options.Document.TheVariants as documents
 use Rattle.ti_report.proofs.PlainLemmas.{report_is_text}
-use Rattle.ti_tool.specs.Documents.{AreObjects, IsDocument, key_of}
+use Rattle.ti_tool.specs.Documents.{AreObjects, key_of}
+use Rattle.ti_tool.specs.Files.{before_findings, each_line, one_of_several, shown_file}
 use Rattle.ti_tool.proofs.DocumentLemmas.{without_newline}
-use Rattle.ti_tool.specs.Results.{IsDue, IsDueFrom}
-use Rattle.ti_tool.specs.Printable.{JsonIsPrintable, ObjectIsPrintable, ArePrintableLines, AreVerdictLines, checked_lines, listed_lines, row_count, rows_count, text_count, texts_count, ShowIsPrintable, CheckIsPrintable, CapIsPrintable, ExpandIsPrintable, GetIsPrintable}
+use Rattle.ti_tool.specs.Results.{IsDue, IsDueIn}
+use Rattle.ti_tool.specs.Printable.{CapabilitiesArePages, EntriesArePages, IsEscaped}
+use Rattle.ti_tool.specs.Voice.{IsPage}
 
 -- ---- joining
 
-abbrev with_newline : List ℕ → List ℕ
-with_newline line = line ++ codes "\n"
+page_of : (text : List ℕ) → IsText text → IsPage text
+page_of [] is = refl
+page_of (char ∷ chars) is = let (first, more) = and_parts (is_printable char) (list_all is_printable chars) is in rw first (page_of chars more)
 
-none : ArePrintableLines 0 []
-none = record { lines = []; counted = refl; printable = refl; joined = refl }
+joined : (a b : List ℕ) → IsPage a → IsPage b → IsPage (a ++ b)
+joined a b of_a of_b = list_all-append is_plain a b ∙ and_from (list_all is_plain a) (list_all is_plain b) of_a of_b
 
-pub one : (line out : List ℕ) → IsText line → out ≡ line ++ codes "\n" → ArePrintableLines 1 out
-one line out is e = record {
-  lines = line ∷ [];
-  counted = refl;
-  printable = and_from (list_all is_printable line) true is refl;
-  joined = e ∙ sym (append-nil (line ++ codes "\n"));
-}
+line : (text : List ℕ) → IsText text → IsPage (text ++ codes "\n")
+line text is = joined text (codes "\n") (page_of text is) refl
 
-pub joined_lines : (m n : ℕ) (a b : List ℕ) → ArePrintableLines m a → ArePrintableLines n b → ArePrintableLines (m + n) (a ++ b)
-joined_lines m n a b of_a of_b = record {
-  lines = of_a.lines ++ of_b.lines;
-  counted = omega (arith, length-append of_a.lines of_b.lines, of_a.counted, of_b.counted);
-  printable = list_all-append (λ line. list_all is_printable line) of_a.lines of_b.lines
-      ∙ and_from (list_all (λ line. list_all is_printable line) of_a.lines) (list_all (λ line. list_all is_printable line) of_b.lines) of_a.printable of_b.printable;
-  joined = ap (λ x. x ++ b) of_a.joined ∙ ap (λ x. flat_map with_newline of_a.lines ++ x) of_b.joined ∙ sym (flat_map-append with_newline of_a.lines of_b.lines);
-}
+same_page : (out page : List ℕ) → out ≡ page → IsPage page → IsPage out
+same_page out page is of_page = ap (list_all is_plain) is ∙ of_page
 
 -- ---- labels
 
@@ -97,7 +90,7 @@ topic_text naming OfFormat e = refl
 topic_text naming OfNames e = refl
 topic_text naming (OfCapability subject) e = both (subject_word subject) (subject_label naming subject) (word_text subject) (subject_text naming subject e)
 
--- ---- the line of a row
+-- ---- rows
 
 shown_text : (form : Form) (text : List ℕ) → form ≡ forms.Notation → IsText (shown form text)
 shown_text forms.Hex text e = absurd cc
@@ -117,25 +110,20 @@ content_text options (HasFault refused) e n =
     both (codes " fault " ++ cap_fault_word refused.fault ++ codes " at ") (decimal refused.place)
     (both (codes " fault " ++ cap_fault_word refused.fault) (codes " at ") (both (codes " fault ") (cap_fault_word refused.fault) refl (fault_text refused.fault)) refl) (decimal_text refused.place)
 
-row_text : (options : ListOptions) (row : RowValue) → options.form ≡ forms.Notation → options.naming.form ≡ name_forms.Notation → ArePrintableLines (row_count row) (row_line options [] row)
-row_text options (topic, content) e n = go (is_absent content)
-  where
-    line : List ℕ
-    line = topic_label options.naming topic ++ content_words options content
+module _ (options : ListOptions) (e : options.form ≡ forms.Notation) (n : options.naming.form ≡ name_forms.Notation) where
+  row_page : (row : RowValue) → IsPage (row_line options [] row)
+  row_page (topic, content) = go (is_absent content)
+    where
+      text : List ℕ
+      text = topic_label options.naming topic ++ content_words options content
 
-    go : (b : Bool) → ArePrintableLines (if b then 0 else 1) (if b then [] else line ++ codes "\n")
-    go true = none
-    go false = one line (line ++ codes "\n") (both (topic_label options.naming topic) (content_words options content) (topic_text options.naming topic n) (content_text options content e n)) refl
+      go : (b : Bool) → IsPage (if b then [] else text ++ codes "\n")
+      go true = refl
+      go false = line text (both (topic_label options.naming topic) (content_words options content) (topic_text options.naming topic n) (content_text options content e n))
 
-rows_text : (options : ListOptions) → options.form ≡ forms.Notation → options.naming.form ≡ name_forms.Notation → (rows : List RowValue) → ArePrintableLines (rows_count rows) (row_lines options rows)
-rows_text options e n [] = none
-rows_text options e n (row ∷ rows) = joined_lines (row_count row) (rows_count rows) (row_line options [] row) (row_lines options rows) (row_text options row e n) (rows_text options e n rows)
-
-pub shown_lines : ShowIsPrintable
-shown_lines options input out e n (inl (refused, is, same)) = absurd cc
-shown_lines options input out e n (inr (v, spells, listed)) =
-    let is : out ≡ entry_lines options v = cc in
-    let P : List ℕ → Type 0 = λ x. ArePrintableLines (listed_lines v) x in (v, spells, subst P (sym is) (rows_text options e n (entry_rows v)))
+  rows_page : (rows : List RowValue) → IsPage (row_lines options rows)
+  rows_page [] = refl
+  rows_page (row ∷ rows) = joined (row_line options [] row) (row_lines options rows) (row_page row) (rows_page rows)
 
 -- ---- documents
 
@@ -144,105 +132,94 @@ objects_text documents.Listing passed input v objects are = subst (λ ds. IsText
 objects_text (documents.Verdicts which) passed input v objects (rows, are, is, s) = array_is_text objects (subst HavePlain (sym is) (rows_are_plain (written which rows)))
 objects_text (documents.Findings options) passed input v objects are = report_is_text options input v passed objects are
 
-document_of : (document : Document) (passed : Bool) (input out : List ℕ) → IsDueFrom (IsDocument document passed input) input (Ok out) → (text : List ℕ) × IsText text × (out ≡ text ++ codes "\n")
-document_of document passed input out (inl (refused, is, same)) = absurd cc
-document_of document passed input out (inr (v, spells, (objects, are, e))) = (array_text objects, objects_text document passed input v objects are, e)
-
-pub json_line : JsonIsPrintable
-json_line document passed input out due = let (text, is, e) = document_of document passed input out due in one text out is e
-
 key_text : (document : Document) → IsText (key_of document)
 key_text documents.Listing = refl
 key_text (documents.Verdicts which) = refl
 key_text (documents.Findings options) = refl
 
-pub object_line : ObjectIsPrintable
-object_line document passed name input out due =
-    let (text, is, e) = document_of document passed input out due in
+-- of one of several files
+object_page : (document : Document) (name text out : List ℕ) → IsText text → out ≡ text ++ codes "\n" → IsPage (one_of_several (of_entry.Json document) name out)
+object_page document name text out is e =
     let head = codes "{\"file\":" ++ text_json name ++ codes ",\"" ++ key_of document ++ codes "\":" in
     let of_head : IsText head =
     both (codes "{\"file\":" ++ text_json name ++ codes ",\"" ++ key_of document) (codes "\":")
     (both (codes "{\"file\":" ++ text_json name ++ codes ",\"") (key_of document)
     (both (codes "{\"file\":" ++ text_json name) (codes ",\"") (both (codes "{\"file\":") (text_json name) refl (json_is_text name)) refl) (key_text document)) refl in
-    one (head ++ text ++ codes "}") _ (both (head ++ text) (codes "}") (both head text of_head is) refl)
-    (ap (λ x. head ++ front x ++ codes "}\n") e ∙ ap (λ x. head ++ x ++ codes "}\n") (without_newline text) ∙ sym (append_assoc (head ++ text) (codes "}") (codes "\n")))
-
--- ---- verdicts
-
-judged_count : (subject : SubjectValue) (text : Option (List ℕ)) (rows : List RowValue) → HasRows subject text rows → rows_count rows ≡ text_count text
-judged_count subject None rows is = ap rows_count is
-judged_count subject (Some text) rows (content, inl (depth, bound, faultless, d, b, says), is) = ap rows_count is ∙ ap (λ c. rows_count ((OfCapability subject, c) ∷ [])) says
-judged_count subject (Some text) rows (content, inr (refused, h, says), is) = ap rows_count is ∙ ap (λ c. rows_count ((OfCapability subject, c) ∷ [])) says
-
-add_assoc : (k m n : ℕ) → k + (m + n) ≡ (k + m) + n
-add_assoc k m n = omega arith
-
-both_count : (first more : List RowValue) → rows_count (first ++ more) ≡ rows_count first + rows_count more
-both_count [] more = omega arith
-both_count (row ∷ first) more = ap (λ n. row_count row + n) (both_count first more) ∙ add_assoc (row_count row) (rows_count first) (rows_count more)
-
-rows_counted : (xs : List Listed) (rows : List RowValue) → AreRows xs rows → rows_count rows ≡ texts_count xs
-rows_counted [] rows is = ap rows_count is
-rows_counted (x ∷ xs) rows (first, more, has, are, is) =
-    ap rows_count is ∙ both_count first more ∙ ap₂ (λ m n. m + n) (judged_count x.0 (text_in x.1) first has) (rows_counted xs more are)
-
-all_written : (rows : List RowValue) → written All rows ≡ rows
-all_written [] = refl
-all_written (row ∷ rows) = ap (λ l. row ∷ l) (all_written rows)
-
-no_more : (which : Verdicts) (rows : List RowValue) → rows_count (written which rows) ≤ rows_count rows
-no_more which [] = omega arith
-no_more which (row ∷ rows) = go (is_written which row) (no_more which rows)
-  where
-    go : (b : Bool) → rows_count (written which rows) ≤ rows_count rows → rows_count (if b then row ∷ written which rows else written which rows) ≤ row_count row + rows_count rows
-    go true rest = omega (arith, rest)
-    go false rest = omega (arith, rest)
-
-are_verdict_lines : (which : Verdicts) (v : EntryValue) (rows : List RowValue) → AreRows (items v) rows → AreVerdictLines which v (rows_count (written which rows))
-are_verdict_lines All v rows are = ap rows_count (all_written rows) ∙ rows_counted (items v) rows are
-are_verdict_lines Faults v rows are = let few = no_more Faults rows in let all = rows_counted (items v) rows are in omega (arith, few, all)
-
-pub check_lines : CheckIsPrintable
-check_lines which naming input out passed n (inl (refused, is, same)) = absurd cc
-check_lines which naming input out passed n (inr (v, spells, (rows, are, is, s))) =
-    let options : ListOptions = record { naming = naming; form = forms.Notation } in
-    let count = rows_count (written which rows) in
-    let P : List ℕ → Type 0 = λ x. ArePrintableLines count x in
-    (v, count, spells, are_verdict_lines which v rows are, subst P (sym is) (rows_text options refl n (written which rows)))
+    same_page (head ++ front out ++ codes "}\n") (head ++ text ++ codes "}\n") (ap (λ x. head ++ front x ++ codes "}\n") e ∙ ap (λ x. head ++ x ++ codes "}\n") (without_newline text))
+    (joined (head ++ text) (codes "}\n") (page_of (head ++ text) (both head text of_head is)) refl)
 
 -- ---- outputs
 
-pub cap_line : CapIsPrintable
-cap_line parameters input out (plain, faultless, expansion, is) = one (notation plain) out (is_printable_all plain) is
-
-pub expand_line : ExpandIsPrintable
-expand_line names name parameters setting input out (inl (refused, is, e)) = absurd cc
-expand_line names name parameters setting input out (inr (v, spells, (item, called, due))) = go (option_and_then text_in item) due
+got_page : (text : List ℕ) (given : Option Given) (setting : Setting) (output : Output) (out : List ℕ) → output ≡ outputs.Line forms.Notation → IsTextResult text given setting output (Ok out) → IsPage out
+got_page text given setting output out e due = go given (let P : Output → Type 0 = λ o. IsTextResult text given setting o (Ok out) in subst P e due)
   where
-    go : (text : Option (List ℕ)) → IsDue text parameters setting (outputs.Line forms.Notation) (Ok out) → ArePrintableLines 1 out
-    go None e = absurd cc
-    go (Some text) (plain, faultless, expansion, short, is) = one (notation (padded_text plain setting)) out (is_printable_all (padded_text plain setting)) is
-
-got_text : (text : List ℕ) (given : Option Given) (setting : Setting) (output : Output) (out : List ℕ) → output ≡ outputs.Line forms.Notation → IsTextResult text given setting output (Ok out) → ArePrintableLines 1 out
-got_text text given setting output out e due = go given (let P : Output → Type 0 = λ o. IsTextResult text given setting o (Ok out) in subst P e due)
-  where
-    go : (given : Option Given) → IsTextResult text given setting (outputs.Line forms.Notation) (Ok out) → ArePrintableLines 1 out
-    go None (short, is) = one (notation (padded_text text setting)) out (is_printable_all (padded_text text setting)) is
+    go : (given : Option Given) → IsTextResult text given setting (outputs.Line forms.Notation) (Ok out) → IsPage out
+    go None (short, is) = same_page out _ is (line (notation (padded_text text setting)) (is_printable_all (padded_text text setting)))
     go (Some given) (inl (refused, r, same)) = absurd cc
     go (Some given) (inr (faultless, (parameters, taken, (plain, passes, expansion, short, is)))) =
-        one (notation (padded_text plain setting)) out (is_printable_all (padded_text plain setting)) is
+        same_page out _ is (line (notation (padded_text plain setting)) (is_printable_all (padded_text plain setting)))
 
-pub got_lines : GetIsPrintable
-got_lines g set input out e (inl (refused, is, same)) = absurd cc
-got_lines g set input out e (inr (v, spells, (item, called, due))) = go item (fit_output g.name.now g.given item (IsValueResult item g set) out due)
+value_page : (g : Get) (set : Bool) (out : List ℕ) (item : Option ItemValue) → g.output ≡ outputs.Line forms.Notation → IsValueResult item g set (Ok out) → IsPage out
+value_page g set out None e (s, same) = absurd cc
+value_page g set out (Some (FlagItem flag)) e (s, same) = let is : out ≡ [] = cc in same_page out [] is refl
+value_page g set out (Some (NumberItem number)) e (s, same) =
+    let is : out ≡ signed_decimal (number_or_none number) ++ codes "\n" = cc in same_page out _ is (line (signed_decimal (number_or_none number)) (signed_text (number_or_none number)))
+value_page g set out (Some (TextItem AbsentText)) e (s, same) = absurd cc
+value_page g set out (Some (TextItem CancelledText)) e (s, same) = absurd cc
+value_page g set out (Some (TextItem (TextOf text))) e (s, due) = got_page text g.given g.padding g.output out e due
+
+expanded_page : (text : Option (List ℕ)) (setting : Setting) (output : Output) (parameters : List _) (out : List ℕ) → output ≡ outputs.Line forms.Notation → IsDue text parameters setting output (Ok out) → IsPage out
+expanded_page text setting output parameters out e due = go text (let P : Output → Type 0 = λ o. IsDue text parameters setting o (Ok out) in subst P e due)
   where
-    go : (item : Option ItemValue) → IsValueResult item g set (Ok out) → ArePrintableLines 0 out ⊎ ArePrintableLines 1 out
-    go None (s, same) = absurd cc
-    go (Some (FlagItem flag)) (s, same) =
-        let is : out ≡ [] = cc in
-        let P : List ℕ → Type 0 = λ x. ArePrintableLines 0 x in inl (subst P (sym is) none)
-    go (Some (NumberItem number)) (s, same) =
-        let is : out ≡ number_result number = cc in inr (one (signed_decimal (number_or_none number)) out (signed_text (number_or_none number)) is)
-    go (Some (TextItem AbsentText)) (s, same) = absurd cc
-    go (Some (TextItem CancelledText)) (s, same) = absurd cc
-    go (Some (TextItem (TextOf text))) (s, due) = inr (got_text text g.given g.padding g.output out e due)
+    go : (text : Option (List ℕ)) → IsDue text parameters setting (outputs.Line forms.Notation) (Ok out) → IsPage out
+    go None same = absurd cc
+    go (Some text) (plain, faultless, expansion, short, is) = same_page out _ is (line (notation (padded_text plain setting)) (is_printable_all (padded_text plain setting)))
+
+pub capabilities : CapabilitiesArePages
+capabilities parameters input out (plain, faultless, expansion, is) = same_page out _ is (line (notation plain) (is_printable_all plain))
+
+-- ---- files
+
+file_text : (form : NameForm) (name : List ℕ) → form ≡ name_forms.Notation → IsText (shown_file form name)
+file_text name_forms.Raw name e = absurd (cc (e))
+file_text name_forms.Notation name e = text (is_minus name)
+  where
+    text : (minus : Bool) → IsText (if minus then codes "-" else notation name)
+    text true = refl
+    text false = is_printable_all name
+
+each_page : (before : List ℕ) → IsPage before → (at_start : Bool) (out : List ℕ) → IsPage out → IsPage (each_line before at_start out)
+each_page before of_before at_start [] is = refl
+each_page before of_before true (b ∷ bs) is =
+    let (first, more) = and_parts (is_plain b) (list_all is_plain bs) is in
+    joined before (b ∷ each_line before (b == 10) bs) of_before (and_from (is_plain b) (list_all is_plain (each_line before (b == 10) bs)) first (each_page before of_before (b == 10) bs more))
+each_page before of_before false (b ∷ bs) is =
+    let (first, more) = and_parts (is_plain b) (list_all is_plain bs) is in
+    and_from (is_plain b) (list_all is_plain (each_line before (b == 10) bs)) first (each_page before of_before (b == 10) bs more)
+
+due_page : (before : List ℕ) (action : EntryAction) (name : List ℕ) (passed : Bool) (input : List ℕ) (v : EntryValue) (out : List ℕ) → IsEscaped action → IsDueIn before action passed input v (Ok out)
+    → IsPage out × IsPage (one_of_several action name out)
+due_page before (of_entry.Show options) name passed input v out (e, n) listed =
+    let is : out ≡ entry_lines options v = cc in
+    let page = same_page out _ is (rows_page options e n (entry_rows v)) in
+    let head = codes "file: " ++ shown_file options.naming.form name in
+    (page, joined (head ++ codes "\n") out (line head (both (codes "file: ") (shown_file options.naming.form name) refl (file_text options.naming.form name n))) page)
+due_page before (of_entry.Json document) name passed input v out e (objects, are, is) =
+    let text = objects_text document passed input v objects are in
+    (same_page out _ is (line (array_text objects) text), object_page document name (array_text objects) out text is)
+due_page before (of_entry.Check which naming) name passed input v out n (rows, are, is, s) =
+    let page = same_page out _ is (rows_page (record { naming = naming; form = forms.Notation }) refl n (written which rows)) in
+    let before = shown_file naming.form name ++ codes ": " in
+    (page, each_page before (page_of before (both (shown_file naming.form name) (codes ": ") (file_text naming.form name n) refl)) true out page)
+due_page before (of_entry.Expand x) name passed input v out e (item, called, due) =
+    let page = expanded_page (option_and_then text_in item) x.padding x.output x.parameters.values out e due in (page, page)
+due_page before (of_entry.Get g) name passed input v out e (item, called, due) =
+    let page = value_page g passed out item e (fit_output g.name.now g.given item (IsValueResult item g passed) out due) in (page, page)
+due_page before action name passed input v out escaped due = absurd escaped
+
+pub entries : EntriesArePages
+entries several action name passed contents out escaped (plain, inl (refused, is, same), result) = absurd cc
+entries true action name passed contents out escaped (plain, inr (v, spells, due), result) =
+    same_page out _ result (due_page (before_findings true name) action name passed contents v plain escaped due).1
+entries false action name passed contents out escaped (plain, inr (v, spells, due), result) =
+    same_page out _ result (due_page (before_findings false name) action name passed contents v plain escaped due).0

@@ -8,6 +8,8 @@ use Rattle.ti_entry.specs.declared.source.ReadStop.{ReadStop}
 use Rattle.ti_entry.specs.declared.source.ReadStop.TheVariants as stop
 use Rattle.ti_line.specs.declared.request.Action.{Action}
 use Rattle.ti_line.specs.declared.request.Action.TheVariants.{Capability, Difference, Entry, Source}
+use Rattle.ti_trace.specs.declared.fault.TraceFault.{TraceFault}
+use Rattle.ti_trace.specs.declared.fault.TraceFault.TheVariants as traces
 use Rattle.ti_tool.specs.declared.fault.ToolFault.{ToolFault}
 use Rattle.ti_tool.specs.declared.fault.ToolFault.TheVariants as fault
 
@@ -46,6 +48,12 @@ HasReadEnough enough left _ = enough ⊎ IsAtEnd left
 abbrev pub stop_fault : ReadStop → ToolFault
 stop_fault (stop.Refused refused) = fault.Entry refused
 stop_fault stop.Io = fault.Read
+
+-- the fault of a call whose trace is refused
+abbrev pub trace_fault : TraceFault → ToolFault
+trace_fault (traces.Cap refused) = fault.Cap refused
+trace_fault (traces.TextTooLong which) = fault.TextTooLong which
+trace_fault traces.Memory = fault.Memory
 
 -- a failed write, which is the only fault that may leave something written
 abbrev pub IsFailedWrite : ToolFault → Type 0

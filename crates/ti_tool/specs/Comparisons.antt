@@ -13,17 +13,17 @@ use Rattle.ti_tool.specs.declared.fault.ToolFault.TheVariants as fault
 use Rattle.ti_listing.specs.Differences.{AreDifferences, DifferenceValue}
 use Rattle.ti_listing.specs.DifferingLines.{differing_lines, grouped_lines}
 use Rattle.ti_listing.specs.DifferingObjects.{differing_text}
-use Rattle.ti_tool.specs.Advice.{refusal_advice}
 use Rattle.ti_tool.specs.FaultLines.{fault_line}
 use Rattle.ti_tool.specs.FileRuns.{Contents, Ends, IsRefusedMemory, IsSupplied, IsUnread, Supply, Unread}
 use Rattle.ti_tool.specs.Files.{file_called, file_line}
 use Rattle.ti_tool.specs.Streams.{KnownFiles, Stream, Streams, file_name}
+use Rattle.ti_tool.specs.Voice.{IsAdvised}
 
 -- contents that are no entry lead to the line on that, with the name of the file before it
 abbrev pub IsRefusedFile : Bool → List ℕ → List ℕ → List ℕ → List ℕ → ℕ → Type 0
 IsRefusedFile has_advice name contents out line status =
     (refused : Refused) × (refusal contents ≡ Some refused) × (out ≡ [])
-    × (line ≡ file_line name (fault_line (fault.Entry refused) ++ refusal_advice has_advice contents refused))
+    × ((told : List ℕ) × IsAdvised has_advice (fault_line (fault.Entry refused)) told × (line ≡ file_line name told))
     × (status ≡ 3)
 
 -- 1 if something is told

@@ -1,7 +1,6 @@
 -- What a run does with standard input, and with files that were named, one after another.
-use Rattle.std.specs.Prelude.{◌≡◌, ◌<◌, ◌⊎◌, ◌||◌, ◌&&◌, ◌==◌, ℕ, max, Bool, not, true, false, List, [], ◌∷◌, ◌++◌, Option, Some, None, IfSome, Result, Ok, Err, codes, if◌then◌else◌, length, map, nat_le, nat_lt, take, unwrap_or}
+use Rattle.std.specs.Prelude.{◌≡◌, ◌<◌, ◌⊎◌, ◌||◌, ◌&&◌, ◌==◌, ℕ, max, Bool, not, true, false, List, [], ◌∷◌, ◌++◌, Option, Some, None, IfSome, Result, Ok, Err, codes, if◌then◌else◌, length, map, nat_lt, take, unwrap_or}
 use Rattle.std.specs.List.{flat_map, list_any}
-use Rattle.ti_base.specs.Letters.{letter}
 use Rattle.std.specs.Io.KnownBytes.{Appends, Consumes, IsAtEnd}
 use Rattle.ti_line.specs.CommandLine.{is_minus}
 use Rattle.ti_line.specs.declared.request.Action.{Action}
@@ -11,8 +10,6 @@ use Rattle.ti_line.specs.declared.request.EntryAction.TheVariants as of_entry
 use Rattle.ti_tool.specs.declared.fault.ToolFault.{ToolFault}
 use Rattle.ti_tool.specs.declared.fault.ToolFault.TheVariants as fault
 use Rattle.ti_tool.specs.declared.extras.Extras.{Extras}
-use Rattle.ti_report.specs.Blocks.{indented}
-use Rattle.ti_tool.specs.Advice.{hints}
 use Rattle.ti_tool.specs.Calls.{FailsAsDue, IsEnough}
 use Rattle.ti_tool.specs.FaultLines.{IsAnswerLine, Told, fault_line}
 use Rattle.ti_tool.specs.Files.{IsDueOfFile, before_findings, file_line}
@@ -20,26 +17,27 @@ use Rattle.ti_tool.specs.Results.{Finds, IsAnswer, IsDueOf}
 use Rattle.ti_tool.specs.Statuses.{status_for}
 use Rattle.ti_tool.specs.Summaries.{IsSummarized}
 use Rattle.ti_lint.specs.declared.lint_options.LintOptions.{LintOptions}
+use Rattle.ti_tool.specs.Voice.{IsAdvised, IsPage}
 use Rattle.ti_tool.specs.Streams.{AreContents, AreFound, FileName, Gives, IsOne, KnownFiles, Lookup, Stream, Streams}
 
 -- ---- contents
 
 -- an answer to a request of contents has its output and no line, or no output and the line on its fault, after what it is
 -- called; out of memory only if what is due needs memory
-abbrev pub AnswerLeadsTo : (Bool → Result (List ℕ) ToolFault → Type 0) → Option (List ℕ) → Action → (List ℕ → List ℕ)
-    → List ℕ → Result Bool ToolFault → List ℕ → List ℕ → Type 0
-AnswerLeadsTo due known action called contents (Ok passed) out line =
+abbrev pub AnswerLeadsTo : (Bool → Result (List ℕ) ToolFault → Type 0) → Bool → Action → (List ℕ → List ℕ)
+    → Result Bool ToolFault → List ℕ → List ℕ → Type 0
+AnswerLeadsTo due has_advice action called (Ok passed) out line =
     Finds action passed × due passed (Ok out) × (line ≡ [])
-AnswerLeadsTo due known action called contents (Err why) out line =
+AnswerLeadsTo due has_advice action called (Err why) out line =
     FailsAsDue (due true) why × (out ≡ [])
-    × ((told : List ℕ) × IsAnswerLine {V = Bool} known action contents (Err why) told × (line ≡ called told))
+    × ((told : List ℕ) × IsAnswerLine has_advice action why told × (line ≡ called told))
 
 -- contents lead to an output, a line and a status
-abbrev pub LeadsTo : (Bool → Result (List ℕ) ToolFault → Type 0) → Option (List ℕ) → Action → (List ℕ → List ℕ)
-    → List ℕ → List ℕ → List ℕ → ℕ → Type 0
-LeadsTo due known action called contents out line status =
+abbrev pub LeadsTo : (Bool → Result (List ℕ) ToolFault → Type 0) → Bool → Action → (List ℕ → List ℕ)
+    → List ℕ → List ℕ → ℕ → Type 0
+LeadsTo due has_advice action called out line status =
     (answer : Result Bool ToolFault) × (status ≡ status_for answer)
-    × AnswerLeadsTo due known action called contents answer out line
+    × AnswerLeadsTo due has_advice action called answer out line
 
 -- ---- which files
 
@@ -106,37 +104,12 @@ IsDueOfJob job name contents passed (Err why) =
 
 abbrev pub IsOutcomeOfContents : Job → List ℕ → List ℕ → List ℕ → List ℕ → ℕ → Type 0
 IsOutcomeOfContents job name contents out line status =
-    LeadsTo (IsDueOfJob job name contents) (hints job.has_advice contents) (Entry job.e) (file_line name) contents
-    out line status
+    LeadsTo (IsDueOfJob job name contents) job.has_advice (Entry job.e) (file_line name) out line status
 
--- a name that a terminal may have: letters, digits and some others
-abbrev pub is_within : List ℕ → List ℕ → ℕ → Bool
-is_within first last b = nat_le (letter first) b && nat_le b (letter last)
-
-abbrev pub is_name_byte : ℕ → Bool
-is_name_byte b =
-    is_within (codes "a") (codes "z") b || (is_within (codes "A") (codes "Z") b || (is_within (codes "0") (codes "9") b
-    || (b == letter (codes "+") || (b == letter (codes "-") || (b == letter (codes ".") || b == letter (codes "_"))))))
-
-abbrev pub is_no_name_byte : ℕ → Bool
-is_no_name_byte b = not (is_name_byte b)
-
-abbrev pub may_be_terminal : List ℕ → Bool
-may_be_terminal name = not (list_any is_no_name_byte name)
-
--- how to find the file of a terminal
-abbrev pub path_words : List ℕ → List ℕ
-path_words name = codes "; ti takes files, such as \"$(ti-path " ++ name ++ codes ")\""
-
--- the line says so if there is no file of such a name
-abbrev pub path_hint : Bool → List ℕ → List ℕ
-path_hint is_missing name = if is_missing && may_be_terminal name then path_words name else []
-
--- a file that can't be read leads to a line with its name and the system's reason, and to status 5
+-- a file that can't be read leads to a page after its name, which says why, and to status 5
 abbrev pub IsUnread : List ℕ → List ℕ → List ℕ → ℕ → Type 0
 IsUnread name out line status =
-    (reason : List ℕ) × (is_missing : Bool) × (out ≡ [])
-    × (line ≡ file_line name (reason ++ path_hint is_missing name ++ codes "\n")) × (status ≡ 5)
+    (reason : List ℕ) × IsPage reason × (out ≡ []) × (line ≡ file_line name reason) × (status ≡ 5)
 
 -- refused memory leads to its line and to status 6
 abbrev pub IsRefusedMemory : List ℕ → List ℕ → ℕ → Type 0
@@ -148,15 +121,6 @@ IsOutcome job name (Contents bytes) out line status = IsOutcomeOfContents job na
 IsOutcome job name Unread out line status = IsUnread name out line status
 IsOutcome job name NoMemory out line status = IsRefusedMemory out line status
 
--- after the line on a failed write comes the reason of the system, in a line, if advice is wanted and memory is not refused
-abbrev pub is_newline : ℕ → Bool
-is_newline byte = byte == 10
-
-abbrev pub IsReason : Bool → List ℕ → Type 0
-IsReason false advice = advice ≡ []
-IsReason true advice =
-    (advice ≡ []) ⊎ ((reason : List ℕ) × (list_any is_newline reason ≡ false) × (advice ≡ indented reason))
-
 -- what a file led to is written, and the status is its; or the writer of results failed at one of its
 -- bytes, and the line on that is told, with the reason
 abbrev pub Delivered : Bool → Stream → Stream → Stream → Stream → Option ℕ → List ℕ → List ℕ → ℕ → Type 0
@@ -164,7 +128,7 @@ Delivered has_advice held0 held1 told0 told1 (Some s) out line status =
     (s ≡ status) × Appends held0 held1 out × Told line told0 told1
 Delivered has_advice held0 held1 told0 told1 None out line status =
     (gone : ℕ) × (gone < length out) × Appends held0 held1 (take gone out)
-    × ((advice : List ℕ) × IsReason has_advice advice × Told (fault_line (fault.Write gone) ++ advice) told0 told1)
+    × ((lines : List ℕ) × IsAdvised has_advice (fault_line (fault.Write gone)) lines × Told lines told0 told1)
 
 -- something leads to an output, a line and a status, which are delivered; after a fault that is no failed write nothing was
 -- written as a result
@@ -175,11 +139,6 @@ Ends has_advice leads unwritten before after status =
     × Delivered has_advice before.held after.held before.told after.told answer out line code
     × (status ≡ unwrap_or answer 5) × IfSome answer (λ s. 1 < s → unwritten))
 
--- the contents that have an output, which is that of an entry
-abbrev pub looked : Supply → ℕ → List (List ℕ)
-looked (Contents bytes) status = if nat_le status 1 then bytes ∷ [] else []
-looked supply status = []
-
 -- ---- standard input
 
 -- what was read of it: all, or as much as is enough for the request; or reading failed
@@ -188,25 +147,19 @@ IsInput action left0 left1 (Contents bytes) = Consumes left0 left1 bytes × (IsE
 IsInput action left0 left1 Unread = (bytes : List ℕ) × Consumes left0 left1 bytes
 IsInput action left0 left1 NoMemory = ⊥
 
--- the bytes by whose front the line on a refused entry says what they are
-abbrev pub front_of : Action → List ℕ → List ℕ
-front_of (Entry e) bytes = bytes
-front_of action bytes = []
-
 -- if no word names it, its lines on faults have no name
 abbrev pub IsOutcomeOfInput : Bool → Action → Supply → List ℕ → List ℕ → ℕ → Type 0
 IsOutcomeOfInput has_advice action (Contents bytes) out line status =
-    LeadsTo (λ passed. IsAnswer action passed bytes) (hints has_advice (front_of action bytes)) action (λ told. told) bytes
-    out line status
+    LeadsTo (λ passed. IsAnswer action passed bytes) has_advice action (λ told. told) out line status
 IsOutcomeOfInput has_advice action _ out line status =
-    (out ≡ []) × (line ≡ fault_line fault.Read) × (status ≡ 5)
+    (out ≡ []) × IsAnswerLine has_advice action fault.Read line × (status ≡ 5)
 
--- a request of it was carried out, and what was looked at is told if that is wanted
+-- a request of it was carried out, with a summary if that is wanted
 abbrev pub RanInput : Extras → Action → Type 0 → Streams → Streams → ℕ → Type 0
 RanInput extras action unwritten before after status =
     (supply : Supply) × (between : Streams) × IsInput action before.left between.left supply
     × Ends extras.has_advice (IsOutcomeOfInput extras.has_advice action supply) unwritten before between status
-    × IsSummarized extras.summary (looked supply status) between after
+    × IsSummarized extras.summary between after
 
 -- ---- one after another
 
@@ -238,20 +191,17 @@ DidFiles known job before after (done ∷ dones) =
 abbrev pub files_done : List DoneFile → List FileName
 files_done = map (λ done. done.file)
 
-abbrev pub all_looked : List DoneFile → List (List ℕ)
-all_looked = flat_map (λ done. looked done.supply done.status)
-
 -- the greatest of their statuses, 0 if there is no file
 abbrev pub greatest_status : List DoneFile → ℕ
 greatest_status [] = 0
 greatest_status (done ∷ dones) = max done.status (greatest_status dones)
 
--- all files are done, what was looked at is told if that is wanted, and the status is the greatest; or those up to the one at
+-- all files are done, with a summary if that is wanted, and the status is the greatest; or those up to the one at
 -- which the writer fails are done
 abbrev pub RanFound : KnownFiles → Job → List FileName → Streams → Streams → ℕ → Type 0
 RanFound known job files before after status =
     ((dones : List DoneFile) × (between : Streams) × (files ≡ files_done dones) × DidFiles known job before between dones
-    × IsSummarized job.summary (all_looked dones) between after × (status ≡ greatest_status dones))
+    × IsSummarized job.summary between after × (status ≡ greatest_status dones))
     ⊎ ((dones : List DoneFile) × (last : DoneFile) × (rest : List FileName) × (between : Streams)
     × (files ≡ files_done dones ++ last.file ∷ rest) × DidFiles known job before between dones
     × DidFile known job between after None last × (status ≡ max (greatest_status dones) 5))

@@ -9,13 +9,8 @@ pub mod Sources
 pub mod Results
 pub mod Printable
 pub mod Calls
-pub mod Near
-pub mod Sentences
-pub mod ShownNames
-pub mod WideNumbers
-pub mod Advice
+pub mod Voice
 pub mod FaultLines
-pub mod Explained
 pub mod Files
 pub mod Streams
 pub mod Statuses

@@ -1,10 +1,9 @@
 -- A notation with the name of its capability before it, as in a source of terminfo.
-use Rattle.std.specs.Prelude.{ℕ, ◌==◌, Bool, true, false, List, ◌++◌, Option, Some, None, codes, if◌then◌else◌, is_some, option_and_then, take}
+use Rattle.std.specs.Prelude.{ℕ, ◌==◌, Bool, true, false, List, Option, Some, None, codes, if◌then◌else◌, is_some, option_and_then, take}
 use Rattle.std.specs.List.{position}
 use Rattle.ti_base.specs.Letters.{letter}
 use Rattle.ti_entry.specs.Finding.{standard_place}
 use Rattle.ti_names.specs.AllNames.{Place}
-use Rattle.ti_tool.specs.ShownNames.{shown_name}
 use Rattle.ti_words.specs.declared.Kind.TheVariants as kinds
 
 abbrev pub is_equals : ℕ → Bool
@@ -23,15 +22,3 @@ pasted_name text = option_and_then (λ count. string_name (take count text)) (po
 
 abbrev pub has_name : List ℕ → Bool
 has_name text = is_some (pasted_name text)
-
--- what is said after such a name
-abbrev pub pasted_rest : List ℕ
-pasted_rest = codes "=: give the string alone, without a comma at its end\n"
-
--- what to leave out, by what is kept of the notation; of a long one that is nothing
-abbrev pub pasted_line : Option (List ℕ) → List ℕ
-pasted_line None = codes "  give the string alone, without its name and the comma at its end\n"
-pasted_line (Some name) = codes "  this starts with " ++ shown_name name ++ pasted_rest
-
-abbrev pub pasted_advice : List ℕ → List ℕ
-pasted_advice kept = pasted_line (pasted_name kept)

@@ -2,7 +2,7 @@
 use Rattle.std.specs.Prelude.{◌≡◌, ◌⊎◌, ◌||◌, ℕ, Bool, true, false, List, [], ◌∷◌, Option, None, Err}
 use Rattle.ti_line.specs.CommandLine.{Command, Reads, Row, files_of, has_summary}
 use Rattle.ti_line.specs.Message.{message_text}
-use Rattle.ti_line.specs.Requests.{Asks, HasText, IsReadAs, is_explain, texts_of}
+use Rattle.ti_line.specs.Requests.{Asks, HasText, IsReadAs, is_explain}
 use Rattle.ti_line.specs.Requests.{Explains as GivesNone}
 use Rattle.ti_line.specs.declared.destination.Destination.TheVariants as destinations
 use Rattle.ti_line.specs.declared.no_request.NoRequest.{NoRequest}
@@ -12,12 +12,12 @@ use Rattle.ti_line.specs.declared.request.Action.TheVariants.{Difference, Entry,
 use Rattle.ti_tool.specs.declared.extras.Extras.{Extras}
 use Rattle.ti_tool.specs.declared.fault.ToolFault.TheVariants as fault
 use Rattle.ti_tool.specs.declared.terminals.Terminals.{Terminals}
-use Rattle.ti_tool.specs.Explained.{Explains}
-use Rattle.ti_tool.specs.FaultLines.{fault_line, line_fault_line}
+use Rattle.ti_tool.specs.FaultLines.{IsRequestLine, fault_line}
 use Rattle.ti_tool.specs.FileRuns.{Ends, RanFiles, RanInput}
 use Rattle.ti_tool.specs.Comparisons.{RanDifference}
 use Rattle.ti_tool.specs.Streams.{KnownFiles, Streams}
 use Rattle.ti_tool.specs.Summaries.{summary_of}
+use Rattle.ti_tool.specs.Voice.{IsPage}
 use Rattle.ti_lint.specs.declared.lint_options.LintOptions.{LintOptions}
 
 -- no stream is a terminal
@@ -61,13 +61,20 @@ HasNoSummary at words =
     (command : Command) (rows : List Row) (action : Action) → Reads words command rows
     → Asks at.output command rows action → summary_for at words action ≡ None
 
+-- findings are explained, or no finding has one of the words, or memory was refused
+abbrev pub Explains : List ℕ → List ℕ → ℕ → Type 0
+Explains out line code =
+    (IsPage out × (line ≡ []) × (code ≡ 0))
+    ⊎ (((out ≡ []) × IsPage line × (code ≡ 2))
+    ⊎ ((out ≡ []) × (line ≡ fault_line fault.Memory) × (code ≡ 6)))
+
 -- there is no request: the result is help, or explains findings, or is nothing, with a line on the words, on the fault of the line or on memory. What a
 -- message says is `clap`'s, which states nothing of it.
 abbrev pub IsSaid : NoRequest → List ℕ → List ℕ → ℕ → Type 0
 IsSaid (no_request.Help message) out line code = (out ≡ message_text message) × (line ≡ []) × (code ≡ 0)
 IsSaid (no_request.Refused message) out line code = (out ≡ []) × (line ≡ message_text message) × (code ≡ 2)
-IsSaid (no_request.Fault why) out line code = (out ≡ []) × (line ≡ line_fault_line why) × (code ≡ 2)
-IsSaid (no_request.Explanation words) out line code = Explains (texts_of words.items) out line code
+IsSaid (no_request.Fault why) out line code = (out ≡ []) × IsRequestLine why line × (code ≡ 2)
+IsSaid (no_request.Explanation words) out line code = Explains out line code
 IsSaid no_request.Memory out line code = (out ≡ []) × (line ≡ fault_line fault.Memory) × (code ≡ 6)
 
 abbrev pub EndsWords : Bool → NoRequest → Type 0 → Streams → Streams → ℕ → Type 0

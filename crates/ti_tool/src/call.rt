@@ -2,22 +2,20 @@
 //!
 //! Nothing is written before the whole result is there: after a fault other than `Write` the writer is as it was.
 
-ghost use Rattle.std.specs.Prelude.{◌⊎◌, ◌≡◌, [], IfErr, IfOk, MatchResult, None, OnOk, true};
+ghost use Rattle.std.specs.Prelude.{◌⊎◌, ◌≡◌, IfErr, IfOk, MatchResult, None, OnOk, true};
 ghost use Rattle.std.specs.Io.KnownBytes.{IsAtEnd};
 ghost use Rattle.ti_line.specs.declared.request.Action.TheVariants.{Capability, Entry, Source};
-ghost use Rattle.ti_tool.specs.Advice.{kept_of};
 ghost use Rattle.ti_tool.specs.Calls.{DidCheck, IsEnough, IsFailedWrite};
 ghost use Rattle.ti_tool.specs.FileRuns.{IsInput, Supply};
 ghost use Rattle.ti_tool.specs.Results.{Finds, IsAnswer};
-ghost use Rattle.ti_tool.specs.inner.Answered.{FeedsFront, HasFault, HasOutput, held_of};
+ghost use Rattle.ti_tool.specs.inner.Answered.{HasFault, HasOutput, IsFed};
 ghost use Rattle.ti_entry.specs.Reading.{new_reading, refusal_after};
 
-use crate::advice::MOST_KEPT;
 use crate::command::{Answer, answer_of_capability, answer_of_entry, answer_of_source};
 use crate::fault::ToolFault;
 use crate::result::write_result;
-use crate::sentence::MOST_FRONT;
 use crate::source::{MOST_BYTES, MOST_CHARACTERS, read_up_to};
+use crate::voice::MOST_FRONT;
 use arrayvec::ArrayVec;
 use std::alloc::Allocator;
 use std::io::{Read, Write};
@@ -25,17 +23,15 @@ use ti_entry::{EntryReader, ReadStop, read_from};
 use ti_line::{Action, CapabilityAction, EntryAction};
 use ti_report::Trials;
 
+/// The most characters of an input that are kept for the advice: four for each column of a string that is shown, and a newline.
+const MOST_KEPT: usize = 1025;
+
 /// What is kept of an input for the advice on a fault: a capability or its notation, or the front of an entry.
 pub type InputText = ArrayVec<u8, MOST_KEPT>;
 
 /// Keeps an input, if it is short.
-fn keep(text: &mut InputText, input: &[u8])
-    requires { text.old.items ≡ [] }
-    ensures { text.new.items ≡ kept_of input.now }
-{
-    if input.len() <= MOST_KEPT {
-        let _ = text.try_extend_from_slice(input);
-    }
+fn keep(text: &mut InputText, input: &[u8]) {
+    let _ = text.try_extend_from_slice(input);
 }
 
 /// The output of a request on what the reader gives as one capability, each byte of it as it stands. At most 32768 bytes of the
@@ -46,13 +42,12 @@ fn answer_of_bytes<A: Allocator + Copy, R: Read>(
     text: &mut InputText,
     reader: &mut R,
 ) -> Result<Answer<A>, ToolFault>
-    requires { text.old.items ≡ [] }
     ensures finds { IfOk result (λ a. a.passed ≡ true) }
     ensures answered { (supply : Supply)
         × IsInput (Capability action.now) (R.remaining reader.old) (R.remaining reader.new) supply
         × MatchResult result
-        (λ a. HasOutput (Capability action.now) text.new.items supply a.passed a.bytes.items)
-        (HasFault (Capability action.now) text.new.items text.new.items supply) }
+        (λ a. HasOutput (Capability action.now) supply a.passed a.bytes.items)
+        (HasFault (Capability action.now) supply) }
 {
     let mut input: ArrayVec<u8, MOST_BYTES> = ArrayVec::new();
     read_up_to(&mut input, reader)?;
@@ -73,13 +68,12 @@ fn answer_of_notation<A: Allocator + Copy, R: Read>(
     text: &mut InputText,
     reader: &mut R,
 ) -> Result<Answer<A>, ToolFault>
-    requires { text.old.items ≡ [] }
     ensures finds { IfOk result (λ a. a.passed ≡ true) }
     ensures answered { (supply : Supply)
         × IsInput (Source action.now) (R.remaining reader.old) (R.remaining reader.new) supply
         × MatchResult result
-        (λ a. HasOutput (Source action.now) text.new.items supply a.passed a.bytes.items)
-        (HasFault (Source action.now) text.new.items text.new.items supply) }
+        (λ a. HasOutput (Source action.now) supply a.passed a.bytes.items)
+        (HasFault (Source action.now) supply) }
 {
     let mut input: ArrayVec<u8, MOST_CHARACTERS> = ArrayVec::new();
     read_up_to(&mut input, reader)?;
@@ -102,10 +96,8 @@ fn read_fronted<R: Read>(
     front: &mut InputText,
     reader: &mut R,
 ) -> Result<(), ReadStop>
-    requires kept { kept.old ≡ new_reading }
-    requires front { front.old.items ≡ [] }
-    ensures fed { FeedsFront
-        (R.remaining reader.old) (R.remaining reader.new) kept.new front.new.items }
+    requires { kept.old ≡ new_reading }
+    ensures fed { IsFed (R.remaining reader.old) (R.remaining reader.new) kept.new }
     ensures end { OnOk result (IsAtEnd (R.remaining reader.new)) }
     ensures accepted { OnOk result (kept.new.refusal ≡ None) }
     ensures refused { IfErr result (λ stop. kept.new.refusal ≡ refusal_after stop) }
@@ -131,14 +123,13 @@ fn answer_of_kept<A: Allocator + Copy, R: Read>(
     front: &mut InputText,
     reader: &mut R,
 ) -> Result<Answer<A>, ToolFault>
-    requires kept { kept.old ≡ new_reading }
-    requires front { front.old.items ≡ [] }
+    requires { kept.old ≡ new_reading }
     ensures finds { IfOk result (λ a. Finds (Entry action.now) a.passed) }
     ensures answered { (supply : Supply)
         × IsInput (Entry action.now) (R.remaining reader.old) (R.remaining reader.new) supply
         × MatchResult result
-        (λ a. HasOutput (Entry action.now) kept.new.kept supply a.passed a.bytes.items)
-        (HasFault (Entry action.now) kept.new.kept front.new.items supply) }
+        (λ a. HasOutput (Entry action.now) supply a.passed a.bytes.items)
+        (HasFault (Entry action.now) supply) }
 {
     read_fronted(kept, front, reader)?;
     let entry = kept.finish()?;
@@ -155,14 +146,13 @@ pub(crate) fn answer_of_input<A: Allocator + Copy, R: Read>(
     text: &mut InputText,
     reader: &mut R,
 ) -> Result<Answer<A>, ToolFault>
-    requires kept { kept.old ≡ new_reading }
-    requires text { text.old.items ≡ [] }
+    requires { kept.old ≡ new_reading }
     ensures finds { IfOk result (λ a. Finds action.now a.passed) }
     ensures answered { (supply : Supply)
         × IsInput action.now (R.remaining reader.old) (R.remaining reader.new) supply
         × MatchResult result
-        (λ a. HasOutput action.now (held_of action.now kept.new.kept text.new.items) supply a.passed a.bytes.items)
-        (HasFault action.now (held_of action.now kept.new.kept text.new.items) text.new.items supply) }
+        (λ a. HasOutput action.now supply a.passed a.bytes.items)
+        (HasFault action.now supply) }
 {
     match action {
         Action::Capability(action) => answer_of_bytes(alloc, action, text, reader),

@@ -11,14 +11,15 @@ ghost use Rattle.ti_tool.specs.Runs.{MayHaveWritten};
 ghost use Rattle.ti_tool.specs.Streams.{streams};
 ghost use Rattle.ti_tool.specs.inner.Files.{EndsFile};
 
-use crate::advice::{advised, refusal_advice};
 use crate::command::document::as_line;
 use crate::delivery::deliver_outcome;
 use crate::fault::ToolFault;
-use crate::fault_line::fault_line;
+use crate::fault_line::{advised, fault_line};
 use crate::file_answer::push_called;
 use crate::outcome::{Outcome, contents_of, fault_outcome, refused_outcome};
+use crate::short_page::ShortPage;
 use crate::store::Store;
+use crate::voice::{Tally, write_refusal};
 use std::alloc::{AllocError, Allocator};
 use std::io::{Read, Write};
 use ti_entry::{Entry, Refused, read};
@@ -39,9 +40,10 @@ fn refusal_outcome<A: Allocator + Copy>(
     ensures led { IfOk result (λ o. IsRefusedFile has_advice name.now contents.now
         o.bytes.items o.line.items o.status) }
 {
-    let line = fault_line(&ToolFault::Entry(refused));
-    let advice = refusal_advice(has_advice, contents, refused);
-    fault_outcome(alloc, name, advised(&line, &advice).as_slice(), 3)
+    let mut page = ShortPage::new();
+    write_refusal(&mut page, contents, refused);
+    let lines = advised(has_advice, &fault_line(&ToolFault::Entry(refused)), &page);
+    fault_outcome(alloc, name, lines.as_slice(), 3)
 }
 
 /// Writes the names of the files, each after the sign of its lines.
@@ -111,7 +113,7 @@ fn difference_outcome<'a, A: Allocator + Copy>(
         bytes,
         line: Vec::new(alloc),
         status,
-        tally: None,
+        tally: Tally::NONE,
     })
 }
 

@@ -1,17 +1,19 @@
 //! The end of each request: its result or the line on its fault is written.
 
-ghost use Rattle.std.specs.Prelude.{◌≡◌, ◌≢◌, ◌<◌, ◌≤◌, ◌⊎◌, ◌++◌, ℕ, List, [], None, IfOk, IfSome, MatchResult, Option, unwrap_or};
+ghost use Rattle.std.specs.Prelude.{◌≡◌, ◌≢◌, ◌<◌, ◌≤◌, ◌⊎◌, ℕ, List, [], None, IfOk, IfSome, MatchResult, Option, unwrap_or};
 ghost use Rattle.ti_tool.specs.FaultLines.{Told, fault_line as the_fault_line};
-ghost use Rattle.ti_tool.specs.FileRuns.{Delivered, IsReason};
+ghost use Rattle.ti_tool.specs.FileRuns.{Delivered};
 ghost use Rattle.ti_tool.specs.Runs.{MayHaveWritten};
 ghost use Rattle.ti_tool.specs.declared.fault.ToolFault.TheVariants as fault;
+ghost use Rattle.ti_tool.specs.Voice.{IsAdvised};
 ghost use Rattle.ti_tool.specs.inner.Files.{EndsFile, IsResultOrLine};
 
 use crate::fault::ToolFault;
-use crate::fault_line::fault_line;
+use crate::fault_line::{advised, fault_line};
 use crate::noted::{Stop, write_noted};
 use crate::outcome::Outcome;
-use crate::reason::stop_lines;
+use crate::short_page::ShortPage;
+use crate::voice::write_stop;
 use std::alloc::{AllocError, Allocator};
 use std::io::Write;
 use ti_pad::write_out;
@@ -51,18 +53,15 @@ fn report_stop<A: Allocator + Copy, E: Write>(
     stop: &Stop,
     errors: &mut E,
 )
-    ensures { (advice : List ℕ) × IsReason has_advice advice
-        × Told (the_fault_line (fault.Write stop.now.gone) ++ advice) (E.contents errors.old) (E.contents errors.new) }
+    ensures { (lines : List ℕ) × IsAdvised has_advice (the_fault_line (fault.Write stop.now.gone)) lines
+        × Told lines (E.contents errors.old) (E.contents errors.new) }
 {
-    match stop_lines(alloc, has_advice, stop) {
-        Ok(lines) => {
-            let _ = write_out(errors, lines.as_slice());
-        }
-        Err(AllocError) => {
-            let line = fault_line(&ToolFault::Write(stop.gone));
-            let _ = write_out(errors, line.as_slice());
-        }
+    let mut page = ShortPage::new();
+    if let Some(error) = &stop.error {
+        write_stop(&mut page, alloc, error);
     }
+    let lines = advised(has_advice, &fault_line(&ToolFault::Write(stop.gone)), &page);
+    let _ = write_out(errors, lines.as_slice());
 }
 
 /// Writes a result and a line. The result is the status, or none if the results can't be written.

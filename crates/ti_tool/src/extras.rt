@@ -1,9 +1,8 @@
 //! The lines on standard error beside those on faults.
 
-ghost use Rattle.std.specs.Prelude.{◌≡◌, ◌||◌, Bool};
+ghost use Rattle.std.specs.Prelude.{◌≡◌, ◌||◌};
 ghost use Rattle.ti_tool.specs.Runs.{is_source as the_is_source};
 ghost use Rattle.ti_tool.specs.Summaries.{summary_of as the_summary_of};
-ghost use Rattle.ti_tool.specs.inner.Tallies.{HasContents};
 
 use crate::summary::summary_of;
 use crate::terminals::Terminals;
@@ -30,7 +29,6 @@ fn is_source(action: &Action<'_>) -> bool
 pub fn extras_of(at: Terminals, has_summary: bool, action: &Action<'_>) -> Extras
     ensures summary { result.summary ≡ the_summary_of (at.errors || has_summary) action.now }
     ensures advice { result.has_advice ≡ (at.errors || the_is_source action.now) }
-    ensures contents { HasContents result.summary action.now }
 {
     Extras {
         summary: summary_of(at.errors || has_summary, action),

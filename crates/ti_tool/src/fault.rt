@@ -2,7 +2,7 @@
 
 ghost use Rattle.std.specs.Prelude.{◌≡◌};
 ghost use Rattle.ti_tool.specs.declared.fault.ToolFault.TheVariants as fault;
-ghost use Rattle.ti_tool.specs.Calls.{stop_fault};
+ghost use Rattle.ti_tool.specs.Calls.{stop_fault, trace_fault};
 
 use std::alloc::AllocError;
 use thiserror::Error;
@@ -10,6 +10,7 @@ use ti_base::ReadFailed;
 use ti_cap::CapRefused;
 use ti_entry::{EncodeFault, ReadStop, Refused};
 use ti_escape::NotationRefused;
+use ti_trace::TraceFault;
 
 /// Why a call of the program did not write its result, or not all of it.
 #[derive(Clone, Copy, Debug, PartialEq, Eq, Error)]
@@ -93,6 +94,18 @@ impl From<ReadFailed> for ToolFault {
 
     fn from(_failed: ReadFailed) -> ToolFault {
         ToolFault::Read
+    }
+}
+
+impl From<TraceFault> for ToolFault {
+    ghost from_gives = { λ why e. e ≡ trace_fault why };
+
+    fn from(why: TraceFault) -> ToolFault {
+        match why {
+            TraceFault::Cap(refused) => ToolFault::Cap(refused),
+            TraceFault::TextTooLong(which) => ToolFault::TextTooLong(which),
+            TraceFault::Memory => ToolFault::Memory,
+        }
     }
 }
 

@@ -2,39 +2,33 @@
 //!
 //! A line is put together before any byte of it is written. No memory is taken.
 
-ghost use Rattle.std.specs.Prelude.{◌≡◌, ◌≤◌, ◌+◌, ◌++◌, codes, decimal, flat_map, length, map};
-ghost use Rattle.ti_tool.specs.Explained.{unknown_line as the_unknown_line};
-ghost use Rattle.ti_tool.specs.FaultLines.{action_line, diff_usage as the_diff_usage, entry_hint as the_entry_hint, fault_line, line_fault_line, place_line, words_line, near_part, no_name_line, no_number_line as the_no_number_line, only_numbers_line as the_only_numbers_line, shown_name as the_shown_name, surplus_line as the_surplus_line, takes_numbers_line as the_takes_numbers_line, text_named as the_text_named};
-ghost use Rattle.ti_line.specs.declared.request.Action.TheVariants.{Entry};
-ghost use Rattle.ti_tool.specs.Near.{most_told};
+ghost use Rattle.std.specs.Prelude.{◌≡◌, ◌≤◌, ◌+◌, ◌++◌, codes, decimal, flat_map, length};
+ghost use Rattle.ti_tool.specs.FaultLines.{fault_line, names_capability as the_names_capability, place_line, words_line};
+ghost use Rattle.ti_tool.specs.Voice.{IsAdvised, IsPage};
 
 use crate::fault::ToolFault;
+use crate::short_page::ShortPage;
 use arrayvec::ArrayVec;
 use itoa::Buffer;
-use ti_escape::escape_into;
-use ti_line::{EntryAction, LineFault, WordFault};
-use ti_names::NameTable;
+use ti_line::{EntryAction, WordFault};
 
 /// The most bytes of a line.
-pub const MOST_BYTES: usize = 256;
+const MOST_BYTES: usize = 256;
 
 /// The most bytes of the words of a line. Its number, ` at ` and a newline come beside them.
 const MOST_WORD_BYTES: usize = 30;
 
-/// The most bytes of a command's name, a colon and a space.
-const MOST_COMMAND_BYTES: usize = 7;
-
-/// The most characters of a name.
-pub const MOST_SHOWN: usize = 40;
-
-/// The most bytes of the names that are reported, each with what stands before it.
-const MOST_NEAR_BYTES: usize = 153;
+/// The most bytes of a line and of the page after it.
+const MOST_ADVISED: usize = 2304;
 
 /// A line on a fault.
 pub type FaultLine = ArrayVec<u8, MOST_BYTES>;
 
+/// A line on a fault with the advice after it, or a line for people.
+pub type AdvisedLine = ArrayVec<u8, MOST_ADVISED>;
+
 /// The pieces of a line one after another.
-pub(crate) fn line_of(pieces: &[&[u8]]) -> FaultLine
+fn line_of(pieces: &[&[u8]]) -> FaultLine
     requires { length (flat_map (λ piece. piece.now) pieces.now) ≤ MOST_BYTES }
     ensures { result.items ≡ flat_map (λ piece. piece.now) pieces.now }
 {
@@ -88,7 +82,10 @@ pub fn fault_line(fault: &ToolFault) -> FaultLine
         ToolFault::Source(refused) => place_line(b"source: ", refused.fault.word(), refused.place),
         ToolFault::HasName => place_line(b"source: ", "HasName", 0),
         ToolFault::NoSuchText | ToolFault::NoSuchName => line_of(&[b"capability: absent\n"]),
-        ToolFault::OnlyNumbers(which) => only_numbers_line(usize::from(*which)),
+        ToolFault::OnlyNumbers(which) => {
+            let number = u128::from(*which);
+            number_line(b"parameter ", number, b": no 32-bit number\n")
+        }
         ToolFault::TextTooLong(parameter) => {
             let number = u128::from(*parameter);
             number_line(b"capability: TextTooLong ", number, b"\n")
@@ -100,113 +97,8 @@ pub fn fault_line(fault: &ToolFault) -> FaultLine
     }
 }
 
-/// The bytes of a name in the notation, or `..` if that has too many characters.
-pub fn shown_bytes(name: &[u8]) -> ArrayVec<u8, MOST_SHOWN>
-    ensures { result.items ≡ the_shown_name name.now }
-{
-    let mut room = [0; MOST_SHOWN];
-    let mut shown = ArrayVec::new();
-    let _ = match escape_into(name, &mut room) {
-        Some(len) => shown.try_extend_from_slice(&room[..len]),
-        None => shown.try_extend_from_slice(b".."),
-    };
-    shown
-}
-
-/// A name in the notation, or `..`.
-fn shown_name(name: &str) -> ArrayVec<u8, MOST_SHOWN>
-    ensures { result.items ≡ the_shown_name name.now }
-{
-    shown_bytes(name.as_bytes())
-}
-
-/// The part of a line that has names, each with what stands before it.
-fn near_part(near: &[&str]) -> ArrayVec<u8, MOST_NEAR_BYTES>
-    requires { length (near_part (map (λ name. name.now) near.now)) ≤ MOST_NEAR_BYTES }
-    ensures { result.items ≡ near_part (map (λ name. name.now) near.now) }
-{
-    let mut part = ArrayVec::new();
-    let mut mark = b"; nearest: ".as_slice();
-    for name in near {
-        let _ = part.try_extend_from_slice(mark);
-        let _ = part.try_extend_from_slice(shown_name(name).as_slice());
-        mark = b", ";
-    }
-    part
-}
-
-/// The line if nothing has the name that a command was given.
-fn no_name_line(command: &[u8], name: &str, near: &[&str]) -> FaultLine
-    requires command { length command.now ≤ MOST_COMMAND_BYTES }
-    requires few { length near.now ≤ most_told }
-    ensures { result.items ≡ command.now ++ the_shown_name name.now
-        ++ no_name_line (map (λ n. n.now) near.now) }
-{
-    line_of(&[
-        command,
-        shown_name(name).as_slice(),
-        b": no such capability",
-        near_part(near).as_slice(),
-        b"\n",
-    ])
-}
-
-/// The line on a word that is no number, after the name of what takes numbers alone.
-fn takes_numbers_line(command: &[u8], name: &str, which: u8) -> FaultLine
-    requires { length command.now ≤ MOST_COMMAND_BYTES }
-    ensures { result.items ≡ command.now ++ the_shown_name name.now ++ the_takes_numbers_line which }
-{
-    let mut digits = Buffer::new();
-    line_of(&[
-        command,
-        shown_name(name).as_slice(),
-        b": takes numbers; parameter ",
-        digits.format(which).as_bytes(),
-        b": no 32-bit number; an entry is named by --entry FILE\n",
-    ])
-}
-
-/// The line on a word that no finding has.
-pub fn unknown_line(word: &str) -> FaultLine
-    ensures { result.items ≡ the_unknown_line word.now }
-{
-    line_of(&[
-        b"lint: ",
-        shown_name(word).as_slice(),
-        b": no such finding\n",
-    ])
-}
-
-/// The line on the fault of a request on an entry, with the names that are reported in place of the one that it was given.
-pub fn action_line(action: &EntryAction<'_>, near: &[&str], fault: &ToolFault) -> FaultLine
-    requires { length near.now ≤ most_told }
-    ensures { result.items ≡ action_line (Entry action.now) (map (λ n. n.now) near.now) fault.now }
-{
-    match (action, fault) {
-        (EntryAction::Get(get), ToolFault::NoSuchText) => {
-            let shown = shown_name(get.name);
-            line_of(&[b"get: ", shown.as_slice(), b": absent\n"])
-        }
-        (EntryAction::Get(get), ToolFault::NoSuchName) => { no_name_line(b"get: ", get.name, near) }
-        (EntryAction::Get(get), ToolFault::OnlyNumbers(which)) => {
-            takes_numbers_line(b"get: ", get.name, *which)
-        }
-        (EntryAction::Trace(of), ToolFault::NoSuchText) => {
-            let shown = shown_name(of.name);
-            line_of(&[b"trace: ", shown.as_slice(), b": no such string\n"])
-        }
-        (EntryAction::Trace(of), ToolFault::NoSuchName) => {
-            no_name_line(b"trace: ", of.name, near)
-        }
-        (EntryAction::Trace(of), ToolFault::OnlyNumbers(which)) => {
-            takes_numbers_line(b"trace: ", of.name, *which)
-        }
-        _ => fault_line(fault),
-    }
-}
-
 /// The line on words that are no parameters.
-fn words_line(fault: WordFault) -> FaultLine
+pub fn words_line(fault: WordFault) -> FaultLine
     ensures { result.items ≡ words_line fault }
 {
     match fault {
@@ -217,101 +109,36 @@ fn words_line(fault: WordFault) -> FaultLine
     }
 }
 
-/// The short name of a text of terminfo(5).
-fn text_named(text: usize) -> ArrayVec<u8, MOST_SHOWN>
-    ensures { result.items ≡ the_text_named text }
+/// Whether the line on a fault of a request says the name of its capability.
+pub fn names_capability(action: &EntryAction<'_>, fault: &ToolFault) -> bool
+    ensures { result ≡ the_names_capability action.now fault.now }
 {
-    shown_name(NameTable::All.text_name(text).unwrap_or(""))
-}
-
-/// Returns the hint on a word that may name a file.
-fn entry_hint(is_named: bool) -> &'static [u8]
-    ensures { result.now ≡ the_entry_hint is_named }
-{
-    if is_named {
-        b"; an entry is named by --entry FILE"
-    } else {
-        b""
+    match (action, fault) {
+        (
+            EntryAction::Get(_) | EntryAction::Trace(_),
+            ToolFault::NoSuchText | ToolFault::NoSuchName | ToolFault::OnlyNumbers(_),
+        ) => true,
+        _ => false,
     }
 }
 
-/// The line on more parameters than a text takes.
-fn surplus_line(text: usize, takes: u8, given: usize, is_named: bool) -> FaultLine
-    ensures { result.items ≡ the_surplus_line text takes given is_named }
+/// A line, and the page after it if advice is wanted.
+pub fn advised(has_advice: bool, line: &FaultLine, page: &ShortPage) -> AdvisedLine
+    ensures { IsAdvised has_advice line.now.items result.items }
 {
-    let (mut most, mut count) = (Buffer::new(), Buffer::new());
-    line_of(&[
-        b"parameters: ",
-        text_named(text).as_slice(),
-        b" takes ",
-        most.format(takes).as_bytes(),
-        b", not ",
-        count.format(given).as_bytes(),
-        entry_hint(is_named),
-        b"\n",
-    ])
-}
-
-/// The line on a word in place of a number.
-fn no_number_line(text: usize, which: usize) -> FaultLine
-    ensures { result.items ≡ the_no_number_line text which }
-{
-    let mut digits = Buffer::new();
-    line_of(&[
-        b"parameter ",
-        digits.format(which).as_bytes(),
-        b" of ",
-        text_named(text).as_slice(),
-        b": no 32-bit number\n",
-    ])
-}
-
-/// The line on a word that is no number, of a capability that takes no text.
-fn only_numbers_line(which: usize) -> FaultLine
-    ensures { result.items ≡ the_only_numbers_line which }
-{
-    let mut digits = Buffer::new();
-    line_of(&[
-        b"parameter ",
-        digits.format(which).as_bytes(),
-        b": no 32-bit number",
-        entry_hint(true),
-        b"\n",
-    ])
-}
-
-/// The usage of `diff`, as its help has it.
-fn diff_usage() -> &'static [u8]
-    ensures { result.now ≡ the_diff_usage }
-{
-    b"; usage: ti diff [OPTIONS] [FILE] <OTHER>"
-}
-
-/// The line on what a command line can't ask for.
-pub fn line_fault_line(fault: LineFault) -> FaultLine
-    ensures { result.items ≡ line_fault_line fault }
-{
-    match fault {
-        LineFault::BothForms => line_of(&[b"--hex and --escape exclude each other\n"]),
-        LineFault::JsonExplained => line_of(&[b"--json and --explain exclude each other\n"]),
-        LineFault::JsonForm => line_of(&[b"--json excludes --escape and --all-names\n"]),
-        LineFault::ColorWord => line_of(&[b"--color: auto, always or never\n"]),
-        LineFault::BothInputs => line_of(&[b"--source and --of exclude each other\n"]),
-        LineFault::EntryWithoutName => line_of(&[b"trace: --entry without --of\n"]),
-        LineFault::BothWidths => line_of(&[b"convert: both widths\n"]),
-        LineFault::ToTerminal => line_of(&[b"convert: not to a terminal without --force\n"]),
-        LineFault::FileCount => line_of(&[b"diff: one file or two", diff_usage(), b"\n"]),
-        LineFault::InputTwice => {
-            line_of(&[b"diff: standard input cannot be compared with itself\n"])
-        }
-        LineFault::Words(why) => words_line(why),
-        LineFault::Surplus {
-            text,
-            takes,
-            given,
-            is_named,
-        } => surplus_line(text, takes, given, is_named),
-        LineFault::NoNumber { text, which } => no_number_line(text, which),
-        LineFault::OnlyNumbers { which } => only_numbers_line(which),
+    let mut lines = ArrayVec::new();
+    let _ = lines.try_extend_from_slice(line.as_slice());
+    if has_advice {
+        let _ = lines.try_extend_from_slice(page.as_slice());
     }
+    lines
+}
+
+/// A page alone.
+pub fn said(page: &ShortPage) -> AdvisedLine
+    ensures { IsPage result.items }
+{
+    let mut lines = ArrayVec::new();
+    let _ = lines.try_extend_from_slice(page.as_slice());
+    lines
 }

@@ -2,7 +2,7 @@
 //!
 //! A file that can't be read does not keep the others from being read; results that can't be written do.
 
-ghost use Rattle.std.specs.Prelude.{◌≡◌, ◌≢◌, ◌<◌, ◌≤◌, None, MatchResult, Option, is_some, map, max, string_bytes};
+ghost use Rattle.std.specs.Prelude.{◌≡◌, ◌≢◌, ◌<◌, ◌≤◌, None, is_some, map, max, string_bytes};
 ghost use Rattle.ti_line.specs.Requests.{texts_of};
 ghost use Rattle.ti_tool.specs.FileRuns.{EndsWithNone, RanFiles, RanFound};
 ghost use Rattle.ti_tool.specs.Streams.{Stream, file_name, streams};
@@ -13,7 +13,8 @@ use crate::extras::Extras;
 use crate::lookup::look_all_up;
 use crate::outcome::{Errand, Outcome, outcome_of_found};
 use crate::store::{FoundFile, Store};
-use crate::summary::{Tally, more, report_summary};
+use crate::summary::report_summary;
+use crate::voice::Tally;
 use std::alloc::{AllocError, Allocator};
 use std::io::{Read, Write};
 use ti_line::EntryAction;
@@ -29,12 +30,10 @@ fn greater(one: u8, other: u8) -> u8
 }
 
 /// How much was looked at in a file.
-fn tally_in<A: Allocator>(outcome: &Result<Outcome<A>, AllocError>) -> Option<Tally>
-    ensures { MatchResult outcome.now (λ o. result ≡ o.tally) (λ _. result ≡ None) }
-{
+fn tally_in<A: Allocator>(outcome: &Result<Outcome<A>, AllocError>) -> Tally {
     match outcome {
         Ok(outcome) => outcome.tally,
-        Err(AllocError) => None,
+        Err(AllocError) => Tally::NONE,
     }
 }
 
@@ -61,13 +60,13 @@ fn run_found<S: Store, A: Allocator + Copy, R: Read, W: Write, E: Write>(
     let mut tally = Tally::NONE;
     for found in files {
         let outcome = outcome_of_found(store, alloc, &mut trials, errand, found, input);
-        tally = more(tally, tally_in(&outcome));
+        tally = tally.with(tally_in(&outcome));
         match deliver_outcome(alloc, errand.has_advice, outcome, output, errors) {
             Some(status) => greatest = greater(greatest, status),
             None => return greater(greatest, 5),
         }
     }
-    report_summary(alloc, errand.summary, tally, errors);
+    report_summary(errand.summary, tally, errors);
     greatest
 }
 

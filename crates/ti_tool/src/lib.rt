@@ -1,7 +1,6 @@
 //! The program `ti` as functions from the bytes read to the bytes written.
 #![tactic(auto)]
 
-mod advice;
 mod call;
 mod calls;
 mod command;
@@ -18,15 +17,13 @@ mod given_values;
 mod item_name;
 pub mod laws;
 mod lookup;
-mod near;
 mod notation;
 mod noted;
 mod outcome;
 mod pasted;
 mod program;
-mod reason;
 mod result;
-mod sentence;
+mod short_page;
 mod source;
 mod status;
 mod store;
@@ -34,7 +31,7 @@ mod summary;
 mod terminals;
 mod unfit;
 mod verdict;
-mod wide;
+mod voice;
 
 pub use call::carry_out;
 pub use calls::{cap_run, check, convert, expand_named, show};

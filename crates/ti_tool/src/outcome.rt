@@ -2,20 +2,20 @@
 //!
 //! The output for contents is made by `file_answer`. Here a file is read, and its outcome counted.
 
-ghost use Rattle.std.specs.Prelude.{◌≡◌, ◌<◌, [], None, IfOk, Option, is_some, string_bytes, false};
+ghost use Rattle.std.specs.Prelude.{◌≡◌, ◌<◌, [], IfOk, is_some, string_bytes, false};
 ghost use Rattle.ti_line.specs.CommandLine.{is_minus as the_is_minus};
-ghost use Rattle.ti_tool.specs.FileRuns.{Contents, IsOutcome, IsOutcomeOfContents, IsReadFrom, IsSupplied, IsUnread, Supply, looked};
+ghost use Rattle.ti_tool.specs.FileRuns.{IsOutcome, IsOutcomeOfContents, IsReadFrom, IsSupplied, IsUnread, Supply};
 ghost use Rattle.ti_tool.specs.Files.{file_line as the_file_line};
 ghost use Rattle.ti_tool.specs.Streams.{file_name};
 ghost use Rattle.ti_tool.specs.inner.Files.{EndsFile, job_of};
-ghost use Rattle.ti_tool.specs.inner.Tallies.{IsLooked};
 
 use crate::file_answer::{Named, answer_of_file, file_line};
 use crate::program::entry_line;
-use crate::reason::reason_line;
+use crate::short_page::ShortPage;
 use crate::status::status;
 use crate::store::{FoundFile, Store, read_contents};
-use crate::summary::{Tally, look_at};
+use crate::summary::look_at;
+use crate::voice::{Tally, write_reason};
 use std::alloc::{AllocError, Allocator};
 use std::io;
 use std::io::{ErrorKind, Read};
@@ -42,7 +42,7 @@ pub struct Outcome<A: Allocator> {
     pub bytes: Vec<u8, A>,
     pub line: Vec<u8, A>,
     pub status: u8,
-    pub tally: Option<Tally>,
+    pub tally: Tally,
 }
 
 /// Returns the outcome of a fault.
@@ -56,13 +56,12 @@ pub fn fault_outcome<A: Allocator + Copy>(
     ensures ends { IfOk result (λ o. EndsFile o.status o.bytes.items o.line.items) }
     ensures led { IfOk result (λ o. (o.bytes.items ≡ [])
         × (o.line.items ≡ the_file_line name.now line.now) × (o.status ≡ status)) }
-    ensures unseen { IfOk result (λ o. o.tally ≡ None) }
 {
     Ok(Outcome {
         bytes: Vec::new(alloc),
         line: file_line(alloc, name, line)?,
         status,
-        tally: None,
+        tally: Tally::NONE,
     })
 }
 
@@ -74,13 +73,19 @@ pub fn refused_outcome<A: Allocator + Copy>(
 ) -> Result<Outcome<A>, AllocError>
     ensures ends { IfOk result (λ o. EndsFile o.status o.bytes.items o.line.items) }
     ensures led { IfOk result (λ o. IsUnread name.now o.bytes.items o.line.items o.status) }
-    ensures unseen { IfOk result (λ o. o.tally ≡ None) }
 {
     if error.kind() == ErrorKind::OutOfMemory {
         return Err(AllocError);
     }
-    let reason = reason_line(alloc, name, error)?;
-    fault_outcome(alloc, name, reason.as_slice(), 5)
+    let said = format!(in alloc; "{error}")?;
+    let mut page = ShortPage::new();
+    write_reason(
+        &mut page,
+        said.as_str(),
+        name,
+        error.kind() == ErrorKind::NotFound,
+    );
+    fault_outcome(alloc, name, page.as_slice(), 5)
 }
 
 /// Whether a name is that of standard input.
@@ -122,7 +127,6 @@ fn outcome_of<A: Allocator + Copy>(
     ensures ends { IfOk result (λ o. EndsFile o.status o.bytes.items o.line.items) }
     ensures led { IfOk result (λ o. IsOutcomeOfContents (job_of errand.now) name.now contents.now
         o.bytes.items o.line.items o.status) }
-    ensures seen { IfOk result (λ o. IsLooked errand.now.summary (looked (Contents contents.now) o.status) o.tally) }
 {
     let Errand {
         of_entry,
@@ -162,8 +166,7 @@ pub fn outcome_of_found<S: Store, A: Allocator + Copy, R: Read>(
         × IsSupplied (S.known store.now) (file_name (string_bytes found.now.name) (is_some found.now.fault))
         (R.remaining input.old) (R.remaining input.new) supply
         × IsOutcome (job_of errand.now) (string_bytes found.now.name) supply
-        o.bytes.items o.line.items o.status
-        × IsLooked errand.now.summary (looked supply o.status) o.tally) }
+        o.bytes.items o.line.items o.status) }
     ensures kept { the_is_minus (string_bytes found.now.name) ≡ false → input.new ≡ input.old }
 {
     let name = found.name.as_str();

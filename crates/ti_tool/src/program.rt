@@ -1,70 +1,33 @@
 //! The program over its words, a reader and two writers.
 
-ghost use Rattle.std.specs.Prelude.{◌≡◌, ◌≢◌, ◌≤◌, ◌⊎◌, [], Bool, Err, List, None, length, map};
+ghost use Rattle.std.specs.Prelude.{◌≡◌, ◌≢◌, ◌≤◌, ◌⊎◌, [], List, None};
 ghost use Rattle.ti_line.specs.CommandLine.{AreRead, Command, Reads, Row, files_of};
 ghost use Rattle.ti_line.specs.Requests.{texts_of};
 ghost use Rattle.ti_line.specs.declared.request.Action.TheVariants.{Entry};
-ghost use Rattle.ti_tool.specs.Advice.{hints, most_kept};
-ghost use Rattle.ti_tool.specs.FaultLines.{AreTold, AreToldFor, IsAnswerLine};
-ghost use Rattle.ti_tool.specs.FileRuns.{RanInput, front_of};
+ghost use Rattle.ti_tool.specs.FaultLines.{IsAnswerLine, IsRequestLine};
+ghost use Rattle.ti_tool.specs.FileRuns.{RanInput};
 ghost use Rattle.ti_tool.specs.Runs.{DidLine, DidNoLine, EndsWords, HasNoSummary, MayHaveWritten, RanRequest, no_terminals};
-ghost use Rattle.ti_tool.specs.inner.Answered.{held_of};
-ghost use Rattle.ti_tool.specs.inner.Tallies.{HasContents};
 ghost use Rattle.ti_tool.specs.Streams.{Stream, streams, unknown_files};
 
-use crate::advice::{
-    AdvisedLine, advice_on_capability, advice_on_entry, advice_on_nothing, advice_on_source,
-    advised,
-};
 use crate::call::answer_of_input;
 use crate::comparison::run_pair;
 use crate::delivery::{Ending, deliver_last, line_alone};
 use crate::explained::run_explanation;
 use crate::extras::{Extras, extras_of};
 use crate::fault::ToolFault;
-use crate::fault_line::{FaultLine, action_line, fault_line, line_fault_line};
+use crate::fault_line::{AdvisedLine, advised, fault_line, names_capability, said, words_line};
 use crate::files::run_files;
-use crate::near::{NearNames, nearest_names};
+use crate::short_page::ShortPage;
 use crate::status::status;
 use crate::store::{NoStore, Store};
 use crate::summary::report_contents;
 use crate::terminals::Terminals;
+use crate::voice::{write_item_line, write_on_entry, write_on_input, write_request_line};
 use arrayvec::ArrayVec;
-use std::alloc::{AllocError, Allocator, Global};
+use std::alloc::{Allocator, Global};
 use std::io::{Read, Write};
-use ti_entry::{EntryReader, read};
-use ti_line::{Action, EntryAction, Get, NoRequest, Request, TraceOf, read_line};
-
-/// The names that are reported in place of a word: the nearest ones, also of the entry that was read. None if memory is refused.
-fn names_for<'n, A: Allocator + Copy>(alloc: A, word: &str, input: &'n [u8]) -> NearNames<'n>
-    ensures { AreToldFor input.now word.now (map (λ name. name.now) result.items) }
-{
-    match read(input) {
-        Ok(entry) => match nearest_names(alloc, word, &entry) {
-            Ok(near) => near,
-            Err(AllocError) => ArrayVec::new(),
-        },
-        Err(_) => ArrayVec::new(),
-    }
-}
-
-/// The names that are reported in a line on a fault, if nothing in what was read has the name that was given.
-fn told_names<'n, A: Allocator + Copy>(
-    alloc: A,
-    action: &EntryAction<'_>,
-    input: &'n [u8],
-    fault: &ToolFault,
-) -> NearNames<'n>
-    ensures { AreTold (Entry action.now) input.now fault.now (map (λ name. name.now) result.items) }
-{
-    match (action, fault) {
-        (EntryAction::Get(Get { name, .. }), ToolFault::NoSuchName)
-        | (EntryAction::Trace(TraceOf { name, .. }), ToolFault::NoSuchName) => {
-            names_for(alloc, name, input)
-        }
-        _ => ArrayVec::new(),
-    }
-}
+use ti_entry::EntryReader;
+use ti_line::{Action, EntryAction, LineFault, NoRequest, Request, read_line};
 
 /// The line on the fault of a request on an entry, of which these bytes were read, with the advice after it, if it is wanted.
 pub(crate) fn entry_line<A: Allocator + Copy>(
@@ -75,14 +38,17 @@ pub(crate) fn entry_line<A: Allocator + Copy>(
     input: &[u8],
     fault: &ToolFault,
 ) -> AdvisedLine
-    ensures { IsAnswerLine {V = Bool} (hints has_advice front.now) (Entry action.now) input.now (Err fault.now) result.items }
+    ensures { IsAnswerLine has_advice (Entry action.now) fault.now result.items }
 {
-    let near = told_names(alloc, action, input, fault);
-    let line = action_line(action, near.as_slice(), fault);
-    advised(
-        &line,
-        &advice_on_entry(has_advice, front, action, input, fault),
-    )
+    let mut page = ShortPage::new();
+    if names_capability(action, fault) {
+        write_item_line(&mut page, alloc, action, input, fault);
+        return said(&page);
+    }
+    if has_advice {
+        write_on_entry(&mut page, front, action, input, fault);
+    }
+    advised(has_advice, &fault_line(fault), &page)
 }
 
 /// The line on the fault of a request, and the advice. The bytes of an entry are kept, and `input` has its front; else it is the
@@ -95,17 +61,16 @@ fn answer_line<A: Allocator + Copy>(
     input: &mut [u8],
     fault: &ToolFault,
 ) -> AdvisedLine
-    requires { length input.old ≤ most_kept }
-    ensures { IsAnswerLine {V = Bool} (hints has_advice (front_of action.now input.old)) action.now
-        (held_of action.now kept.now input.old) (Err fault.now) result.items }
+    ensures { IsAnswerLine has_advice action.now fault.now result.items }
 {
-    let line = fault_line(fault);
-    match action {
-        Action::Entry(action) => entry_line(alloc, has_advice, input, action, kept, fault),
-        Action::Capability(_) => advised(&line, &advice_on_capability(has_advice, input, fault)),
-        Action::Source(_) => advised(&line, &advice_on_source(has_advice, input, fault)),
-        Action::Difference(_) => advised(&line, &advice_on_nothing(has_advice, fault)),
+    if let Action::Entry(action) = action {
+        return entry_line(alloc, has_advice, input, action, kept, fault);
     }
+    let mut page = ShortPage::new();
+    if has_advice {
+        write_on_input(&mut page, action, input, fault);
+    }
+    advised(has_advice, &fault_line(fault), &page)
 }
 
 /// Carries out a request of standard input, which no word names. A fault is reported, or what was looked at, if that is wanted.
@@ -117,7 +82,6 @@ fn run_input<A: Allocator + Copy, R: Read, W: Write, E: Write>(
     output: &mut W,
     errors: &mut E,
 ) -> u8
-    requires summary { HasContents extras.summary action.now }
     ensures ran { RanInput extras action.now (output.new ≡ output.old)
         (streams (R.remaining input.old) (W.contents output.old) (E.contents errors.old))
         (streams (R.remaining input.new) (W.contents output.new) (E.contents errors.new)) result }
@@ -160,7 +124,6 @@ fn run_request<S: Store, A: Allocator + Copy, R: Read, W: Write, E: Write>(
     output: &mut W,
     errors: &mut E,
 ) -> u8
-    requires summary { HasContents extras.summary action.now }
     ensures ran { RanRequest (S.known store.now) extras action.now (texts_of files.now)
         (output.new ≡ output.old)
         (streams (R.remaining input.old) (W.contents output.old) (E.contents errors.old))
@@ -182,6 +145,18 @@ fn run_request<S: Store, A: Allocator + Copy, R: Read, W: Write, E: Write>(
         Action::Source(_) => { run_input(alloc, extras, action, input, output, errors) }
         Action::Entry(_) => { run_input(alloc, extras, action, input, output, errors) }
     }
+}
+
+/// The line on what a command line can't request.
+fn request_line(fault: LineFault) -> AdvisedLine
+    ensures { IsRequestLine fault result.items }
+{
+    let mut page = ShortPage::new();
+    if let LineFault::Words(why) = fault {
+        return advised(false, &words_line(why), &page);
+    }
+    write_request_line(&mut page, fault);
+    said(&page)
 }
 
 /// Words that request nothing: the texts of help and of explanations go where results go, any other where faults go.
@@ -212,7 +187,7 @@ fn run_no_request<A: Allocator + Copy, W: Write, E: Write>(
             deliver_last(alloc, has_advice, ending, output, errors)
         }
         NoRequest::Fault(fault) => {
-            let line = line_fault_line(*fault);
+            let line = request_line(*fault);
             let ending = line_alone(line.as_slice(), 2);
             deliver_last(alloc, has_advice, ending, output, errors)
         }

@@ -27,15 +27,17 @@ ti expand #0 | terminal | ^Z^A^]\000\000\000\000\000^A\000^E\000x\E]0;pwned^G|\E
 "##;
 
 /// How the run of a row at a terminal or elsewhere ends.
-struct EndAt;
+pub struct EndAt;
 
 impl Finds for EndAt {
     fn find(&self, given: &Given<'_, '_>, found: &mut Vec<u8>) -> Result<(), Unfound> {
         let alloc = *found.allocator();
         let (mut output, mut errors) = (Sink::new(alloc), Sink::new(alloc));
         let mut input = Source::new(given.third, 100);
+        let is_terminal = given.fields()[1] == "terminal";
         let at = Terminals {
-            output: destination(given.fields()[1] == "terminal"),
+            output: destination(is_terminal),
+            errors: is_terminal,
             ..Terminals::NONE
         };
         let status = run_at(

@@ -39,6 +39,13 @@ ti get cursor_addre | @SMALL => 4 err get: cursor_addre: no such capability; nea
 ti get cpu | @SMALL => 4 err get: cpu: no such capability; nearest: cps, cup, cuu\n
 # to the long name bell as well, which comes after the short ones
 ti get bel1 | @SMALL => 4 err get: bel1: no such capability; nearest: bel, el1, bell\n
+# lines is a short name and a long one, and is reported once
+ti get liness | @SMALL => 4 err get: liness: no such capability; nearest: lines, slines\n
+# two characters that are swapped are one edit, and four edits lead to each of the others
+ti get auto_rigth_margin | @SMALL => 4 err get: auto_rigth_margin: no such capability; nearest: auto_right_margin, auto_left_margin, set_right_margin\n
+# characters are counted, and not bytes; two bytes are too few for an edit
+ti get cup\303\251 | @SMALL => 4 err get: cup\\303\\251: no such capability; nearest: cup\n
+ti get cu | @SMALL => 4 err get: cu: no such capability\n
 # the entry's own names are among them, after those of terminfo(5)
 ti get Smulxx | @EXTENDED_BY_TIC => 4 err get: Smulxx: no such capability; nearest: Smulx\n
 ti get smulx | @EXTENDED_BY_TIC => 4 err get: smulx: no such capability; nearest: smul, Smulx\n

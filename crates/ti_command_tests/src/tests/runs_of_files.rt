@@ -213,6 +213,7 @@ ti expand nel --entry own | terminal => 4 err own: capability: StrayEnd at 0\n  
 ti show Zz | terminal => 5 err Zz: entity not found; ti takes files, such as "$(ti-path Zz)"\n
 ti show closed | file => 5 err closed: permission denied\n
 ti show xterm.js | terminal => 5 err xterm.js: entity not found; ti takes files, such as "$(ti-path xterm.js)"\n
+ti show azAZ09+-._ | terminal => 5 err azAZ09+-._: entity not found; ti takes files, such as "$(ti-path azAZ09+-._)"\n
 ti convert --force --narrow edge | terminal => 3 err edge: entry: NumberOutOfRange\n  vt is 40000, which is above 32767 and needs numbers of 32 bits\n
 ti check folder | file => 5 out folder/fault: text bel fault UnknownEscape at 3\nfolder/whole: text bel ok depth 0 bound 1\nfolder/whole: text+ E3 ok depth 0 bound 4\n err folder: invalid filename\n
 ti check --json folder | file => 5 out {"file":"folder/fault","verdicts":[{"fault":"UnknownEscape","kind":"text","name":"bel","place":3}]}\n{"file":"folder/whole","verdicts":[{"bound":1,"depth":0,"kind":"text","name":"bel"},{"bound":4,"depth":0,"kind":"text","name":"E3","own":true}]}\n err folder: invalid filename\n

@@ -2,7 +2,6 @@
 
 ghost use Rattle.std.specs.Prelude.{Ok, MatchResult, option_map};
 ghost use Rattle.ti_words.specs.Items.{item_value};
-ghost use Rattle.ti_line.specs.declared.options.TraceForm.TheVariants as trace_forms;
 ghost use Rattle.ti_tool.specs.Got.{IsDueBy};
 ghost use Rattle.ti_tool.specs.Traces.{IsTraced, IsTracedBy, IsTracedOf, IsTracedValue};
 ghost use Rattle.ti_tool.specs.Calls.{FailsAsDue};
@@ -17,46 +16,11 @@ use ti_cap::Capability;
 use ti_entry::Entry;
 use ti_expand::Value;
 use ti_line::{Given, TraceForm, TraceOf};
-use ti_trace::{TraceFault, TraceOptions, trace, trace_json};
+use ti_trace::{trace, trace_json};
 use ti_words::{Item, Text};
 
 /// The parameters if no word gives one.
 const NO_VALUES: [Value<'static>; 9] = [Value::Num(0); 9];
-
-/// The lines of a trace.
-fn trace_lines<A: Allocator + Copy>(
-    alloc: A,
-    input: &[u8],
-    parameters: &[Value<'_>; 9],
-    options: &TraceOptions,
-) -> Result<Vec<u8, A>, ToolFault>
-    ensures { let IsDue = IsTraced parameters.now (trace_forms.Lines options.now) input.now in
-        MatchResult result (λ v. IsDue (Ok v.items)) (FailsAsDue IsDue) }
-{
-    match trace(alloc, input, parameters, options) {
-        Ok(text) => Ok(text),
-        Err(TraceFault::Cap(refused)) => Err(ToolFault::Cap(refused)),
-        Err(TraceFault::TextTooLong(parameter)) => Err(ToolFault::TextTooLong(parameter)),
-        Err(TraceFault::Memory) => Err(ToolFault::Memory),
-    }
-}
-
-/// A trace as JSON, in a line.
-fn trace_document<A: Allocator + Copy>(
-    alloc: A,
-    input: &[u8],
-    parameters: &[Value<'_>; 9],
-) -> Result<Vec<u8, A>, ToolFault>
-    ensures { let IsDue = IsTraced parameters.now trace_forms.Json input.now in
-        MatchResult result (λ v. IsDue (Ok v.items)) (FailsAsDue IsDue) }
-{
-    match trace_json(alloc, input, parameters) {
-        Ok(text) => Ok(as_line(text)?),
-        Err(TraceFault::Cap(refused)) => Err(ToolFault::Cap(refused)),
-        Err(TraceFault::TextTooLong(which)) => Err(ToolFault::TextTooLong(which)),
-        Err(TraceFault::Memory) => Err(ToolFault::Memory),
-    }
-}
 
 /// The result of `trace` for an input.
 pub fn trace_result<A: Allocator + Copy>(
@@ -70,8 +34,8 @@ pub fn trace_result<A: Allocator + Copy>(
         (FailsAsDue (IsTraced parameters.now form input.now)) }
 {
     match form {
-        TraceForm::Lines(options) => trace_lines(alloc, input, parameters, &options),
-        TraceForm::Json => trace_document(alloc, input, parameters),
+        TraceForm::Lines(options) => Ok(trace(alloc, input, parameters, &options)?),
+        TraceForm::Json => Ok(as_line(trace_json(alloc, input, parameters)?)?),
     }
 }
 

@@ -15,10 +15,10 @@ returns-in_err-bytes-clause-answered g c =
     let p = err_from_is_err_and c.from_residual-in_err-bytes.result c.from_residual-in_err-bytes.ensures.1 in
     let took = ReadsInto-empty _ _ _ _ c.as_slice-input.result.now c.read_up_to.ensures.taken c.new-input.ensures c.as_slice-input.ensures.value in
     let at = at_end _ _ c.read_up_to.new.bytes.items c.as_slice-input.result.now c.as_slice-input.ensures.value c.in_ok-read_up_to.ensures.end in
-    rw (p.1, p.2) (Contents c.as_slice-input.result.now, (took, at), (c.in_err-bytes.ensures, c.keep.ensures))
+    rw (p.1, p.2) (Contents c.as_slice-input.result.now, (took, at), c.in_err-bytes.ensures)
 
 pub returns-clause-answered : goal.returns-clause-answered
 returns-clause-answered g c =
     let took = ReadsInto-empty _ _ _ _ c.as_slice-input.result.now c.read_up_to.ensures.taken c.new-input.ensures c.as_slice-input.ensures.value in
     let at = at_end _ _ c.read_up_to.new.bytes.items c.as_slice-input.result.now c.as_slice-input.ensures.value c.in_ok-read_up_to.ensures.end in
-    (Contents c.as_slice-input.result.now, (took, at), (c.in_ok-bytes.ensures, tt))
+    (Contents c.as_slice-input.result.now, (took, at), c.in_ok-bytes.ensures)

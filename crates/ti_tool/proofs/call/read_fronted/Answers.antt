@@ -1,22 +1,15 @@
-use Rattle.std.proofs.Common.{◌≡◌, arith, length}
-use Rattle.std.proofs.lemmas.Grind.{common_steps}
-use Rattle.ti_tool.specs.Sentences.{most_front}
 use Rattle.ti_tool.proofs.FrontLemmas.{front_fed, more_fed}
 use Rattle.ti_tool.proofs.call.read_fronted.Goals as goal
 
 pub returns-in_err-feed-clause-fed : goal.returns-in_err-feed-clause-fed
-returns-in_err-feed-clause-fed g c =
-    front_fed _ _ _ _ _ _ _ _ c.read_up_to-came.ensures.taken c.new-first.ensures c.as_slice-bytes.ensures.value c.as_slice-bytes.ensures.fits c.keep.ensures c.requires.kept c.feed.ensures.fed
+returns-in_err-feed-clause-fed g c = front_fed _ _ _ _ _ _ _ c.read_up_to-came.ensures.taken c.new-first.ensures c.as_slice-bytes.ensures.value c.requires c.feed.ensures.fed
 
 pub returns-in_err-came-clause-fed : goal.returns-in_err-came-clause-fed
-returns-in_err-came-clause-fed g c =
-    front_fed _ _ _ _ _ _ _ _ c.read_up_to-came.ensures.taken c.new-first.ensures c.as_slice-bytes.ensures.value c.as_slice-bytes.ensures.fits c.keep.ensures c.requires.kept c.feed.ensures.fed
+returns-in_err-came-clause-fed g c = front_fed _ _ _ _ _ _ _ c.read_up_to-came.ensures.taken c.new-first.ensures c.as_slice-bytes.ensures.value c.requires c.feed.ensures.fed
 
 pub returns-then-is_full-clause-fed : goal.returns-then-is_full-clause-fed
 returns-then-is_full-clause-fed g c =
-    let full : length c.as_slice-bytes.result.now ≡ most_front = grind (arith, common_steps) in
-    more_fed _ _ _ _ _ _ _ _ c.read_up_to-came.ensures.taken c.new-first.ensures c.as_slice-bytes.ensures.value c.as_slice-bytes.ensures.fits c.keep.ensures c.requires.kept c.feed.ensures.fed _ _ full c.read_from.ensures.fed
+    more_fed _ _ _ _ _ _ _ c.read_up_to-came.ensures.taken c.new-first.ensures c.as_slice-bytes.ensures.value c.requires c.feed.ensures.fed _ _ c.read_from.ensures.fed
 
 pub returns-else-is_full-clause-fed : goal.returns-else-is_full-clause-fed
-returns-else-is_full-clause-fed g c =
-    front_fed _ _ _ _ _ _ _ _ c.read_up_to-came.ensures.taken c.new-first.ensures c.as_slice-bytes.ensures.value c.as_slice-bytes.ensures.fits c.keep.ensures c.requires.kept c.feed.ensures.fed
+returns-else-is_full-clause-fed g c = front_fed _ _ _ _ _ _ _ c.read_up_to-came.ensures.taken c.new-first.ensures c.as_slice-bytes.ensures.value c.requires c.feed.ensures.fed

@@ -11,5 +11,5 @@ invariant-loop-found g l = record {
   known : l.greatest ≢ 2;
   silent : l.greatest ≤ 1 → l.errors ≡ l.initial.errors;
   ran : RanSome (g.S.Store.known l.store) (job_of l.errand) (map (λ f. file_name (string_bytes f.name) (is_some f.fault)) (take l.found-index l.files))
-      (streams (g.R.Read.remaining l.initial.input) (g.W.Write.contents l.initial.output) (g.E.Write.contents l.initial.errors)) (streams (g.R.Read.remaining l.input) (g.W.Write.contents l.output) (g.E.Write.contents l.errors)) l.greatest l.tally;
+      (streams (g.R.Read.remaining l.initial.input) (g.W.Write.contents l.initial.output) (g.E.Write.contents l.initial.errors)) (streams (g.R.Read.remaining l.input) (g.W.Write.contents l.output) (g.E.Write.contents l.errors)) l.greatest;
 }
