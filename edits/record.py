@@ -3,7 +3,8 @@
 A line has the name of an edit, the sum of what its verdict rests on, as it was refused, and the name of the kit that refused it; then
 `in place` if it was tried in its place and not in a copy. The sum covers the kit's logic, whatever its name, and the scripts that
 judge too. A line with another sum says nothing, and of two lines for one edit none counts, so that a merge may keep the lines of
-both sides. The line `all` has the version at which all were tried, and the kit; `edits/try --all` alone changes it.
+both sides. The line `all` has the version at which all were tried, and the kit; `edits/try --all`, or `--joined` of its parts, alone
+changes it.
 
 A refusal says that the search found no proof, and a kit of another name may search further. So of the lines of other kits more are
 tried again.
@@ -17,6 +18,7 @@ from dataclasses import dataclass, field
 from functools import lru_cache
 from hashlib import sha256
 from inspect import getsource
+from pathlib import Path
 
 from bodies import HERE, Edit, Function
 from checks.crates import CRATES, folder_of, words_for
@@ -65,11 +67,11 @@ class Refusal:
 class Record:
     """The lines of the record, those by rows, and the version and the kit with which all edits were tried: none if that is not known."""
 
-    def __init__(self) -> None:
+    def __init__(self, path: Path = PATH) -> None:
         self.refusals: dict[str, Refusal] = {}
         self.by_rows: dict[str, str] = {}
         self.all_tried: list[str] = []
-        lines = PATH.read_text(encoding="utf-8").splitlines() if PATH.exists() else []
+        lines = path.read_text(encoding="utf-8").splitlines() if path.exists() else []
         rows = [line.split("\t") for line in lines]
         counts = Counter((row[0], ROWS in row[2:]) for row in rows)
         for name, *rest in rows:
