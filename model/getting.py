@@ -94,11 +94,24 @@ def texts_in(name):
         return []
 
 
+def is_called(word, name):
+    """Whether a word is a name but for capitals, or a function key, as F5 and KEY_F5 are kf5."""
+    key = re.fullmatch(r"(?:KEY_)?[Ff]([0-9]*)", word)
+    return bool(key) and name == "kf" + key[1] or lower(word) == lower(name)
+
+
+def lower(word):
+    """With small letters in place of the capitals of ASCII."""
+    return re.sub("[A-Z]", lambda letter: letter[0].lower(), word)
+
+
 def nearest(word, names):
-    """The three names to which fewest edits lead, the first of those alike, if there is at most one edit for each three bytes."""
+    """The three names to which fewest edits lead, the first of those alike, if there is at most one edit for each three bytes. None
+    leads to what is called so."""
     most = len(word.encode()) // 3
-    near = [(distance(word, name), name) for name in names if abs(len(name) - len(word)) <= most]
-    return [name for edits, name in sorted(near, key=lambda found: found[0]) if edits <= most][:3]
+    called = [(0, name) for name in names if is_called(word, name)]
+    near = [(distance(word, name), name) for name in names if abs(len(name) - len(word)) <= most and not is_called(word, name)]
+    return [name for edits, name in sorted(called + near, key=lambda found: found[0]) if edits <= most][:3]
 
 
 # ---- parameters

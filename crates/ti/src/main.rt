@@ -7,7 +7,7 @@ mod disk;
 mod streams;
 
 use crate::disk::Disk;
-use crate::streams::{Errors, Input, Output};
+use crate::streams::{Errors, Input, Output, line_on_reading};
 use std::alloc::AllocError;
 use std::cell::Cell;
 use std::env::VarError;
@@ -68,6 +68,7 @@ fn status(rt: &HostRuntime) -> io::Result<u8> {
         &mut Input {
             stdin,
             stderr,
+            line: line_on_reading(texts.as_slice()),
             is_silent: at.input,
         },
         &mut Output {

@@ -90,7 +90,7 @@ pub(crate) const STATUSES: &str = "Status:
   5  reading or writing failed
   6  out of memory
 
-Examples (infocmp | head -n 1 names the file of your terminal):
-  ti show --escape /lib/terminfo/x/xterm
-  ti lint /lib/terminfo/x/xterm
-  ti get cup 4 9 --entry /lib/terminfo/x/xterm";
+Examples (ti-path prints the file of your terminal's entry):
+  ti show --escape \"$(ti-path)\"
+  ti lint \"$(ti-path)\"
+  ti get cup 4 9 --entry \"$(ti-path)\"";

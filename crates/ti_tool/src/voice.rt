@@ -5,6 +5,7 @@
 mod advice;
 mod explanation;
 mod item_line;
+mod known_as;
 mod near;
 mod reason;
 mod request_line;

@@ -46,9 +46,24 @@ ti get auto_rigth_margin | @SMALL => 4 err get: auto_rigth_margin: no such capab
 # characters are counted, and not bytes; two bytes are too few for an edit
 ti get cup\303\251 | @SMALL => 4 err get: cup\\303\\251: no such capability; nearest: cup\n
 ti get cu | @SMALL => 4 err get: cu: no such capability\n
+# what people call capabilities comes first: by the descriptions in terminfo(5) and user_caps(5)
+ti get italic | @SMALL => 4 err get: italic: no such capability; nearest: sitm\n
+ti get Underline | @SMALL => 4 err get: Underline: no such capability; nearest: smul, newline\n
+ti get truecolor | @SMALL => 4 err get: truecolor: no such capability; nearest: RGB, Tc, setrgbf\n
+ti get reset | @SMALL => 4 err get: reset: no such capability; nearest: sgr0, rs1, rs2\n
+ti get up | @SMALL => 4 err get: up: no such capability; nearest: kcuu1, cuu1\n
+# a function key, and nothing else of its form; key_f12 is a long name
+ti get F5 | @SMALL => 4 err get: F5: no such capability; nearest: kf5\n
+ti get f0 | @SMALL => 4 err get: f0: no such capability; nearest: kf0\n
+ti get KEY_F12 | @SMALL => 4 err get: KEY_F12: no such capability; nearest: kf12, key_f12\n
+ti get F99 | @SMALL => 4 err get: F99: no such capability\n
+ti get Fnd | @SMALL => 4 err get: Fnd: no such capability; nearest: ind\n
+# but for capitals
+ti get CUP | @SMALL => 4 err get: CUP: no such capability; nearest: cup\n
+ti get e3 | @EXTENDED => 4 err get: e3: no such capability; nearest: E3\n
 # the entry's own names are among them, after those of terminfo(5)
 ti get Smulxx | @EXTENDED_BY_TIC => 4 err get: Smulxx: no such capability; nearest: Smulx\n
-ti get smulx | @EXTENDED_BY_TIC => 4 err get: smulx: no such capability; nearest: smul, Smulx\n
+ti get smulx | @EXTENDED_BY_TIC => 4 err get: smulx: no such capability; nearest: Smulx, smul\n
 ti get E33 | @EXTENDED => 4 err get: E33: no such capability; nearest: E3\n
 # The extended entry with an own flag whose name is no UTF-8.
 ti get AXX | ^Z^A^B\000^A\000^A\000^B\000^B\000t\000^A\000P\000\377\377\000\000^G\000^A\000\000\000^A\000^C\000^K\000^A\000\000\000\000\000^C\000\E[3J\000A\377\000E3\000 => 4 err get: AXX: no such capability\n

@@ -1,9 +1,11 @@
 //! The names that are nearest to a word that nothing has.
 //!
-//! The distance is that of optimal string alignment. A name is near if there is one edit at most for each three bytes of the word. All
-//! short and long names are gone over once, and those of the entry's extended capabilities.
+//! The nearest are what people call so, as `kf5` is called F5, and a name that differs in capitals alone. Of the others the distance
+//! is that of optimal string alignment: a name is near if there is one edit at most for each three bytes of the word. All short and long
+//! names are gone over once, and those of the entry's extended capabilities.
 
 use crate::short_page::ShortPage;
+use crate::voice::known_as::{KNOWN_AS, is_called};
 use std::alloc::Allocator;
 use std::str::from_utf8;
 use strsim::osa_distance;
@@ -37,17 +39,42 @@ struct NearNames<'w, 'n, A: Allocator> {
 }
 
 impl<'n, A: Allocator + Copy> NearNames<'_, 'n, A> {
-    /// Adds a name, if it is near and not there yet.
-    fn add(&mut self, name: &'n str) {
+    fn push(&mut self, edits: usize, name: &'n str) {
+        self.is_refused |= self.found.push(NearName { edits, name }).is_err();
+    }
+
+    /// Adds a name, if few edits lead to it.
+    fn add_edited(&mut self, name: &'n str) {
         let most = self.word.len() / BYTES_OF_AN_EDIT;
         let more = name.chars().count().abs_diff(self.word.chars().count());
-        if more > most || self.found.iter().any(|one| one.name == name) {
+        if more > most {
             return;
         }
         match osa_distance(self.alloc, self.word, name) {
             Ok(edits) if edits > most => (),
-            Ok(edits) => self.is_refused |= self.found.push(NearName { edits, name }).is_err(),
+            Ok(edits) => self.push(edits, name),
             Err(_) => self.is_refused = true,
+        }
+    }
+
+    /// Adds a name, if it is near and not there yet.
+    fn add(&mut self, name: &'n str) {
+        if self.found.iter().any(|one| one.name == name) {
+            return;
+        }
+        if is_called(self.word, name) {
+            self.push(0, name)
+        } else {
+            self.add_edited(name)
+        }
+    }
+
+    /// Adds the names of what the word is known for.
+    fn add_known(&mut self) {
+        'words: for (word, name) in KNOWN_AS {
+            if self.word.eq_ignore_ascii_case(word) {
+                self.push(0, name)
+            }
         }
     }
 
@@ -85,6 +112,7 @@ pub fn write_nearest<'n, A: Allocator + Copy>(
         found: Vec::new(alloc),
         is_refused: false,
     };
+    near.add_known();
     near.add_standard(NameTable::All);
     near.add_standard(NameTable::Long);
     near.add_extended(entry);
