@@ -126,10 +126,16 @@ abbrev pub which_verdicts : Bool → Verdicts
 which_verdicts true = Faults
 which_verdicts false = All
 
+-- the few lines on faults name all capabilities, and so does a listing at a terminal
+abbrev pub names_all : Verdicts → Bool → Bool
+names_all Faults terminal = true
+names_all All terminal = terminal
+
 -- what `check` asks for by it and the same
 abbrev pub check_action : Verdicts → Bool → Bool → Bool → Bool → EntryAction
 check_action which true all_names escape terminal = of_entry.Json (documents.Verdicts which)
-check_action which false all_names escape terminal = of_entry.Check which (naming_of all_names escape terminal)
+check_action which false all_names escape terminal =
+    of_entry.Check which (naming_of (all_names || names_all which terminal) escape terminal)
 
 -- what `lint` asks for by `--json`
 abbrev pub lint_action : Bool → LintOptions → Color → EntryAction
@@ -141,11 +147,11 @@ abbrev pub trace_rows_at : Bool → TraceRows
 trace_rows_at true = trace_rows.Joined
 trace_rows_at false = trace_rows.Each
 
--- what `trace` asks for by `--json` and `--escape`, and by whether it goes to a terminal
+-- what `trace` asks for by `--json` and `--escape`, and by whether it goes to a terminal, where it is as if `--escape` were given
 abbrev pub trace_form_of : Bool → Bool → Bool → Color → TraceForm
 trace_form_of true escape terminal color = trace_forms.Json
 trace_form_of false escape terminal color =
-    trace_forms.Lines (record { form = form_of escape; color = color; rows = trace_rows_at terminal })
+    trace_forms.Lines (record { form = form_of (escape || terminal); color = color; rows = trace_rows_at terminal })
 
 -- what `diff` asks for by `--json`, and by whether it goes to a terminal
 abbrev pub comparison_of : Bool → Bool → Color → Comparison

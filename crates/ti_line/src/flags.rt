@@ -2,7 +2,7 @@
 
 ghost use Rattle.std.specs.Prelude.{◌≡◌};
 ghost use Rattle.ti_line.specs.Requests.{width_of as the_width_of};
-ghost use Rattle.ti_line.specs.Options.{check_action as the_check_action, comparison_of as the_comparison_of, form_of as the_form_of, input_action as the_input_action, likeness_of as the_likeness_of, lint_action as the_lint_action, lint_options as the_lint_options, list_options as the_list_options, name_table_of as the_name_table_of, naming_of as the_naming_of, output_of as the_output_of, level_of as the_level_of, show_action as the_show_action, trace_form_of as the_trace_form_of, trace_rows_at as the_trace_rows_at, which_verdicts as the_which_verdicts};
+ghost use Rattle.ti_line.specs.Options.{check_action as the_check_action, comparison_of as the_comparison_of, form_of as the_form_of, input_action as the_input_action, likeness_of as the_likeness_of, lint_action as the_lint_action, lint_options as the_lint_options, list_options as the_list_options, name_table_of as the_name_table_of, names_all as the_names_all, naming_of as the_naming_of, output_of as the_output_of, level_of as the_level_of, show_action as the_show_action, trace_form_of as the_trace_form_of, trace_rows_at as the_trace_rows_at, which_verdicts as the_which_verdicts};
 
 use crate::options::{
     Comparison, Document, Likeness, ListOptions, NameForm, Naming, Output, TraceForm, Verdicts,
@@ -129,6 +129,16 @@ pub fn which_verdicts(faults: bool) -> Verdicts
     }
 }
 
+/// Whether `check` names all capabilities: at a terminal, and if it writes few lines.
+fn names_all(which: Verdicts, terminal: bool) -> bool
+    ensures { result ≡ the_names_all which terminal }
+{
+    match which {
+        Verdicts::Faults => true,
+        Verdicts::All => terminal,
+    }
+}
+
 /// Returns the request of `check`, which `--json` makes a document.
 pub fn check_action<'a>(
     which: Verdicts,
@@ -142,6 +152,7 @@ pub fn check_action<'a>(
     if json {
         EntryAction::Json(Document::Verdicts(which))
     } else {
+        let all_names = all_names || names_all(which, terminal);
         EntryAction::Check(which, naming_of(all_names, escape, terminal))
     }
 }
@@ -168,7 +179,7 @@ fn trace_rows_at(terminal: bool) -> TraceRows
     }
 }
 
-/// How `trace` writes, by `--json` and `--escape`, which exclude each other.
+/// How `trace` writes, by `--json` and `--escape`, which exclude each other. At a terminal it is as if `--escape` were given.
 pub fn trace_form_of(json: bool, escape: bool, terminal: bool, color: Color) -> TraceForm
     ensures { result ≡ the_trace_form_of json escape terminal color }
 {
@@ -176,7 +187,7 @@ pub fn trace_form_of(json: bool, escape: bool, terminal: bool, color: Color) -> 
         return TraceForm::Json;
     }
     TraceForm::Lines(TraceOptions {
-        form: form_of(escape),
+        form: form_of(escape || terminal),
         color,
         rows: trace_rows_at(terminal),
     })

@@ -40,7 +40,7 @@ ti show --all-names => Entry(Show(ListOptions { naming: Naming { table: All, for
 ti check => Entry(Check(All, Naming { table: Common, form: Raw }))
 ti check --all-names => Entry(Check(All, Naming { table: All, form: Raw }))
 ti check --escape => Entry(Check(All, Naming { table: Common, form: Notation }))
-ti check --faults => Entry(Check(Faults, Naming { table: Common, form: Raw }))
+ti check --faults => Entry(Check(Faults, Naming { table: All, form: Raw }))
 ti cap --escape n:1 => Capability(CapabilityAction { parameters: ParameterValues { values: [Num(1), Num(0), Num(0), Num(0), Num(0), Num(0), Num(0), Num(0), Num(0)] }, result: Cap(Line(Notation)) })
 ti check -ea => Entry(Check(All, Naming { table: All, form: Notation }))
 ti check -ea --faults => Entry(Check(Faults, Naming { table: All, form: Notation }))
@@ -160,14 +160,14 @@ fn words_ask_for_explanations(rt: HostRuntime) {
 /// Words, and what they ask for at a terminal that has color.
 const AT_A_TERMINAL: &str = r#"
 # Names go to a terminal in the notation alone.
-ti check => Entry(Check(All, Naming { table: Common, form: Notation }))
+ti check => Entry(Check(All, Naming { table: All, form: Notation }))
 # Differences go to a terminal for people.
 ti diff a b => Difference(Pair { file: "a", other: "b", likeness: Bytes, form: Headed(Always) })
 ti diff --color never a b => Difference(Pair { file: "a", other: "b", likeness: Bytes, form: Headed(Never) })
 ti diff --json a b => Difference(Pair { file: "a", other: "b", likeness: Bytes, form: Json })
 # Runs of bytes of a trace are joined.
 ti trace --of cup -e => Entry(Trace(TraceOf { name: "cup", given: None, form: Lines(TraceOptions { form: Notation, color: Always, rows: Joined }) }))
-ti trace n:7 => Capability(CapabilityAction { parameters: ParameterValues { values: [Num(7), Num(0), Num(0), Num(0), Num(0), Num(0), Num(0), Num(0), Num(0)] }, result: Trace(Lines(TraceOptions { form: Hex, color: Always, rows: Joined })) })
+ti trace n:7 => Capability(CapabilityAction { parameters: ParameterValues { values: [Num(7), Num(0), Num(0), Num(0), Num(0), Num(0), Num(0), Num(0), Num(0)] }, result: Trace(Lines(TraceOptions { form: Notation, color: Always, rows: Joined })) })
 ti trace --json --of cup => Entry(Trace(TraceOf { name: "cup", given: None, form: Json }))
 # An entry goes to a terminal by force alone.
 ti convert --force --wide => Entry(Convert(Some(Wide)))

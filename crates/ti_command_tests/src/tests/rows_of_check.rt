@@ -37,6 +37,9 @@ ti check --faults --json | @QUESTION => 1 out [{"fault":"UnknownEscape","kind":"
 ti check --faults | \E^A => 3 err entry: BadMagic at 0\n
 # A fault before a sound text, and one after it.
 ti check --faults | ^Z^A^B\000\000\000\000\000^C\000^H\000t\000\000\000^C\000^E\000%p\000a\000%t\000 => 1 out text cbt fault CutShort at 0\ntext cr fault StrayThen at 0\n
+# The text at index 9, which is cmdch.
+ti check | ^Z^A^B\000\000\000\000\000^J\000^C\000t\000\377\377\377\377\377\377\377\377\377\377\377\377\377\377\377\377\377\377\000\000%p\000 => 1 out text #9 fault CutShort at 0\n
+ti check --faults | ^Z^A^B\000\000\000\000\000^J\000^C\000t\000\377\377\377\377\377\377\377\377\377\377\377\377\377\377\377\377\377\377\000\000%p\000 => 1 out text cmdch fault CutShort at 0\n
 # An extended text with a fault that has the name of a pattern.
 ti check --faults | ^Z^A^B\000\000\000\000\000\000\000\000\000t\000\000\000\000\000^A\000^B\000^F\000\000\000\000\000%p\000u8\000 => 1 out text+ u8 fault CutShort at 0\n
 "#;
