@@ -80,9 +80,13 @@ fn check(data: &[u8]) -> Outcome {
     Ok((status, out))
 }
 
+/// Writes into a vector and into a slice, which must be the same.
 fn convert(data: &[u8], width: Option<Width>) -> Outcome {
     let entry = entry_of(data)?;
-    let bytes = Draft::from(&entry).set_width(width.unwrap_or(entry.width())).encode();
+    let mut draft = Draft::from(&entry);
+    draft.set_width(width.unwrap_or(entry.width()));
+    let (bytes, mut out) = (draft.encode(), vec![0; limits::MOST_ENTRY_BYTES]);
+    assert_eq!(draft.encode_into(&mut out).map(|written| out[..written].to_vec()), bytes.clone().map_err(EncodeIntoError::Refused));
     Ok((0, bytes.map_err(|fault| (NO_ENTRY, format!("entry: {fault}")))?))
 }
 

@@ -3,7 +3,7 @@
 use crate::Entry;
 use crate::cap::Standard;
 use crate::kit::Global;
-use crate::made::draft::EncodeError;
+use crate::made::draft::{EncodeError, EncodeIntoError, Part, Source, encode_into};
 use crate::made::words::{Flag, Kind, Number, Text, Width};
 use crate::shown::Shown;
 use alloc::vec::Vec;
@@ -143,6 +143,102 @@ impl<'a> Draft<'a> {
             draft.push_extended_text(name, *text)?;
         }
         Ok(crate::made::entry::encode(Global, &draft)?.into_items())
+    }
+
+    /// Writes the bytes of the entry to the front of a slice, and returns how many they are. It takes no memory.
+    ///
+    /// ```
+    /// use ti_terminfo::{Draft, EncodeIntoError, Width};
+    ///
+    /// # fn main() -> Result<(), Box<dyn std::error::Error>> {
+    /// let draft = Draft::new("mine|my terminal", Width::Legacy);
+    /// let mut out = [0; 64];
+    /// let written = draft.encode_into(&mut out)?;
+    /// assert_eq!(out[..written], draft.encode()?);
+    /// assert_eq!(draft.encode_into(&mut []), Err(EncodeIntoError::OutTooSmall { need: written }));
+    /// # Ok(())
+    /// # }
+    /// ```
+    ///
+    /// # Errors
+    ///
+    /// Any of [`EncodeIntoError`](crate::EncodeIntoError). The slice is as before then.
+    pub fn encode_into(&self, out: &mut [u8]) -> Result<usize, EncodeIntoError> {
+        encode_into(self, out)
+    }
+
+    /// A user-defined name by its index: of booleans, then numbers, then strings.
+    fn name(&self, index: usize) -> Option<&'a [u8]> {
+        let (flags, numbers) = (self.extended_flags.len(), self.extended_numbers.len());
+        if index < flags {
+            Some(self.extended_flags[index].0)
+        } else if index - flags < numbers {
+            Some(self.extended_numbers[index - flags].0)
+        } else {
+            self.extended_texts.get(index - flags - numbers).map(|(name, _)| *name)
+        }
+    }
+}
+
+/// What the writer takes: each list by index, and nothing at or above its count.
+impl Source for Draft<'_> {
+    fn width(&self) -> Width {
+        self.width
+    }
+
+    fn names(&self) -> &[u8] {
+        self.names
+    }
+
+    fn flag_count(&self, part: Part) -> usize {
+        match part {
+            Part::Standard => self.flags.len(),
+            Part::Extended => self.extended_flags.len(),
+            Part::Names => 0,
+        }
+    }
+
+    fn number_count(&self, part: Part) -> usize {
+        match part {
+            Part::Standard => self.numbers.len(),
+            Part::Extended => self.extended_numbers.len(),
+            Part::Names => 0,
+        }
+    }
+
+    fn text_count(&self, part: Part) -> usize {
+        match part {
+            Part::Standard => self.texts.len(),
+            Part::Extended => self.extended_texts.len(),
+            Part::Names => self.extended_flags.len() + self.extended_numbers.len() + self.extended_texts.len(),
+        }
+    }
+
+    fn flag(&self, part: Part, index: usize) -> Flag {
+        let flag = match part {
+            Part::Standard => self.flags.get(index),
+            Part::Extended => self.extended_flags.get(index).map(|(_, flag)| flag),
+            Part::Names => None,
+        };
+        flag.copied().unwrap_or(Flag::No)
+    }
+
+    fn number(&self, part: Part, index: usize) -> Number {
+        let number = match part {
+            Part::Standard => self.numbers.get(index),
+            Part::Extended => self.extended_numbers.get(index).map(|(_, number)| number),
+            Part::Names => None,
+        };
+        number.copied().unwrap_or(Number::Absent)
+    }
+
+    fn text(&self, part: Part, index: usize) -> Text<'_> {
+        let text = match part {
+            Part::Standard => self.texts.get(index).copied(),
+            Part::Extended => self.extended_texts.get(index).map(|(_, text)| *text),
+            Part::Names => self.name(index).map(Text::Value),
+        };
+        text.unwrap_or(Text::Absent)
     }
 }
 

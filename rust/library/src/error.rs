@@ -33,6 +33,7 @@ io_errors! {
     ReadError => InvalidData,
     ParseError => InvalidData,
     crate::EncodeError => InvalidInput,
+    crate::EncodeIntoError => InvalidInput,
     PadError => InvalidInput,
     PadIntoError => InvalidInput,
     CompileError => InvalidInput,

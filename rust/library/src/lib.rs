@@ -60,7 +60,7 @@ pub use message::Message;
 /// ```
 pub use made::cap::Capability;
 pub use made::cap::{Conversion, Format, Op, ParseError, ParseFault, Tape, Token};
-pub use made::draft::EncodeError;
+pub use made::draft::{EncodeError, EncodeIntoError};
 pub use made::entry::{ReadError, ReadFault};
 pub use made::expand::{Run, Value, Vars};
 pub use made::kept::CompileError;

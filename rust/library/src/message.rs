@@ -1,7 +1,7 @@
 //! What the faults say in sentences, beside their names.
 
 use crate::made::cap::{ParseError, ParseFault};
-use crate::made::draft::EncodeError;
+use crate::made::draft::{EncodeError, EncodeIntoError};
 use crate::made::entry::{ReadError, ReadFault};
 use crate::made::kept::CompileError;
 use crate::made::pad::{PadError, PadIntoError};
@@ -59,6 +59,9 @@ assert_eq!(fault.message().to_string(), \"the capability takes a string, or need
     EncodeError: "let fault = ti_terminfo::EncodeError::NulInText;
 assert_eq!(fault.to_string(), \"NulInText\");
 assert_eq!(fault.message().to_string(), \"a string holds a NUL\");",
+    EncodeIntoError: "let fault = ti_terminfo::EncodeIntoError::OutTooSmall { need: 22 };
+assert_eq!(fault.to_string(), \"OutTooSmall 22\");
+assert_eq!(fault.message().to_string(), \"the slice has less than the 22 bytes of the entry\");",
     ExpandError: "let fault = ti_terminfo::ExpandError::OutTooSmall { need: 26 };
 assert_eq!(fault.to_string(), \"OutTooSmall 26\");
 assert_eq!(fault.message().to_string(), \"the slice has less than the 26 bytes that may be written\");",
@@ -140,6 +143,15 @@ impl Says for EncodeError {
             EncodeError::TooManyOrLong => "the entry would have more than 32768 bytes",
             EncodeError::Memory => NO_MEMORY,
         })
+    }
+}
+
+impl Says for EncodeIntoError {
+    fn say(&self, f: &mut fmt::Formatter<'_>) -> fmt::Result {
+        match self {
+            EncodeIntoError::Refused(refused) => refused.say(f),
+            EncodeIntoError::OutTooSmall { need } => write!(f, "the slice has less than the {need} bytes of the entry"),
+        }
     }
 }
 

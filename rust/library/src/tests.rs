@@ -65,6 +65,22 @@ fn each_constant_has_its_short_name() {
 }
 
 #[test]
+fn a_draft_is_written_into_a_slice() {
+    let file = marks();
+    let draft = Draft::from(&Entry::read(&file).unwrap());
+    for more in 0..3 {
+        let mut out = std::vec![7; file.len() + more];
+        assert_eq!(draft.encode_into(&mut out), Ok(file.len()));
+        assert_eq!((&out[..file.len()], &out[file.len()..]), (&file[..], &[7; 3][..more]));
+    }
+    let mut short = std::vec![7; file.len() - 1];
+    let fault = EncodeIntoError::OutTooSmall { need: file.len() };
+    assert_eq!((draft.encode_into(&mut short), fault.to_string()), (Err(fault), std::format!("OutTooSmall {}", file.len())));
+    let wide = Draft::new("m", Width::Legacy).set(cap::Columns, 32768).encode_into(&mut short);
+    assert_eq!((wide, short.iter().all(|byte| *byte == 7)), (Err(EncodeIntoError::Refused(EncodeError::NumberOutOfRange)), true));
+}
+
+#[test]
 fn ten_parameters_are_refused() {
     let nothing = Capability::parse(b"").unwrap();
     let refused = ExpandError::TooManyParameters { given: 10 };
@@ -182,7 +198,7 @@ fn what_is_made_is_printed_cloned_and_sent() {
     is_fit::<Vars>();
     is_fit::<Draft<'_>>();
     is_fit::<(Padding, Name<'_>, Value<'_>, Run)>();
-    is_fit::<(ReadError, ParseError, ExpandError, PadError, PadIntoError, EncodeError)>();
+    is_fit::<(ReadError, ParseError, ExpandError, PadError, PadIntoError, EncodeError, EncodeIntoError)>();
     let file = marks();
     assert_eq!(std::format!("{:?}", Entry::read(&file).unwrap()), "Entry { names: \"m\", .. }");
 }
