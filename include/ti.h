@@ -323,8 +323,8 @@ uint32_t ti_view_item(const ti_view *view, size_t place, ti_bytes *name, uint32_
 uint32_t ti_read(const unsigned char *bytes, size_t length, ti_arrays *arrays, ti_counts *counts);
 
 /* Writes a compiled entry of what ti_read fills, the names and the counts of the ti_counts and as many items of the arrays, with
- * numbers of 32 bits if number_bits is 32, and of 16 otherwise. The strings follow each other in their order, each with its NUL, and
- * none is shared, so equal items give equal bytes.
+ * numbers of 32 bits if number_bits is 32, and of 16 otherwise. No number is cut: one that 16 bits do not hold is a fault. The strings
+ * follow each other in their order, each with its NUL, and none is shared, so equal items give equal bytes.
  *
  * TI_DONE: the room starts with the entry, and its length is written. ti_read reads the same items of it. The rest of the room is as
  * it was.
@@ -333,8 +333,8 @@ uint32_t ti_read(const unsigned char *bytes, size_t length, ti_arrays *arrays, t
  * TI_BAD_NAME, TI_NUL_IN_TEXT, TI_NUMBER_OUT_OF_RANGE, TI_TOO_MANY_OR_LONG: the items are those of no entry.
  * TI_OUT_TOO_SMALL: the room has fewer bytes than the entry. Its length is written, so you can call once with no room to learn it.
  *
- * Room for TI_MOST_BYTES is always enough. A boolean other than 0 and the marks is written as 1, and a string with another mark than 0 and
- * TI_CANCELLED as absent. Of a string that is not there no bytes are looked at.
+ * Room for TI_MOST_BYTES is always enough. A boolean other than 0 and the marks is written as 1, and a string with another mark than 0
+ * and TI_CANCELLED as absent. Of a string that is not there no bytes are looked at.
  *
  *     unsigned char out[TI_MOST_BYTES];
  *     size_t written;
