@@ -37,14 +37,16 @@ static bool is(const char *text, const char *wanted) {
     return text == NULL || wanted == NULL ? text == wanted : strcmp(text, wanted) == 0;
 }
 
-/* ---- memory that is refused. The linker leads all calls of malloc and realloc here, but not in the shared libraries. */
+/* ---- memory that is refused. The linker leads all calls of malloc, realloc and free here, but not in the shared libraries. */
 
-static long until_refused = -1;
+static long until_refused = -1, held;
 
 void *__real_malloc(size_t size) __attribute__((weak));
 void *__real_realloc(void *p, size_t size) __attribute__((weak));
+void __real_free(void *p) __attribute__((weak));
 void *__wrap_malloc(size_t size);
 void *__wrap_realloc(void *p, size_t size);
+void __wrap_free(void *p);
 
 static bool is_refused(void) {
     if (until_refused < 0 || until_refused-- > 0)
@@ -54,11 +56,20 @@ static bool is_refused(void) {
 }
 
 void *__wrap_malloc(size_t size) {
-    return is_refused() ? NULL : __real_malloc(size);
+    void *p = is_refused() ? NULL : __real_malloc(size);
+    held += p != NULL;
+    return p;
 }
 
 void *__wrap_realloc(void *p, size_t size) {
-    return is_refused() ? NULL : __real_realloc(p, size);
+    void *more = is_refused() ? NULL : __real_realloc(p, size);
+    held += p == NULL && more != NULL;
+    return more;
+}
+
+void __wrap_free(void *p) {
+    held -= p != NULL;
+    __real_free(p);
 }
 
 /* ---- entries */
@@ -178,6 +189,12 @@ static void test_extended(void) {
     for (int i = 0; i < 1000; i++)
         CHECK(unibi_add_ext_str(term, "more", "text") == (size_t)i + 2);
     CHECK(is(unibi_get_ext_str(term, 1), "two") && is(unibi_get_ext_str(term, 1001), "text"));
+    /* The last of a list of each length is deleted, also of one that is full. */
+    for (size_t i = 0; i < 40; i++) {
+        CHECK(unibi_add_ext_num(term, "more", 7) == i + 1);
+        unibi_del_ext_num(term, i + 1);
+        CHECK(unibi_add_ext_num(term, "again", 8) == i + 1);
+    }
     /* Of an entry that was read the others stay. */
     unibi_del_ext_str(other, 0);
     CHECK(unibi_count_ext_str(other) == count - 1 && unibi_get_ext_str_name(other, 0) == second);
@@ -218,6 +235,26 @@ static void test_dump(void) {
     errno = 0;
     CHECK(unibi_dump(term, dumped, sizeof dumped) == SIZE_MAX && errno == EINVAL);
     unibi_destroy(back);
+    unibi_destroy(term);
+}
+
+/* The bytes are those of term(5): a header, names, booleans, numbers, offsets of strings, and these. */
+static void test_bytes(void) {
+    static const char wanted[] = "\32\1" "\36\0" "\2\0" "\3\0" "\2\0" "\2\0" "null|unibilium dummy terminal\0" "\0\1"
+                                 "\377\377\377\377\30\0" "\377\377\0\0" "\a";
+    static char dumped[40000];
+    unibi_term *term = unibi_dummy();
+    unibi_set_bool(term, unibi_auto_right_margin, 1);
+    unibi_set_num(term, unibi_lines, 24);
+    unibi_set_str(term, unibi_bell, "\a");
+    CHECK(unibi_dump(term, dumped, sizeof dumped) == sizeof wanted && memcmp(dumped, wanted, sizeof wanted) == 0);
+    CHECK(unibi_dump(term, dumped, sizeof wanted) == sizeof wanted);
+    errno = 0;
+    CHECK(unibi_dump(term, NULL, 0) == sizeof wanted && errno == EFAULT);
+    unibi_set_num(term, unibi_lines, 32767);
+    CHECK(unibi_dump(term, dumped, sizeof dumped) == sizeof wanted && memcmp(dumped, "\32\1", 2) == 0);
+    unibi_set_num(term, unibi_lines, 32768);
+    CHECK(unibi_dump(term, dumped, sizeof dumped) == sizeof wanted + 6 && memcmp(dumped, "\36\2", 2) == 0);
     unibi_destroy(term);
 }
 
@@ -268,8 +305,16 @@ static void test_files(void) {
     CHECK(is_found(unibi_from_mem(bytes, length + 9)));
 }
 
+/* The lowest number that no open file has. */
+static int next_file(void) {
+    int file = dup(0);
+    close(file);
+    return file;
+}
+
 static void test_search(void) {
     static char long_name[5001];
+    const int next = next_file();
     memset(long_name, 'x', 5000);
     mkdir(in_folder("x"), 0755);
     mkdir(in_folder("78"), 0755);
@@ -279,6 +324,7 @@ static void test_search(void) {
     write_file(in_folder("78/xtwo"), bytes, length);
     write_file(in_folder(".terminfo/h/home"), bytes, length);
     write_file(in_folder("x/xbad"), "no entry", 8);
+    write_file(in_folder("78/xbad"), bytes, length);
     setenv("TERMINFO", folder, 1);
     setenv("HOME", in_folder("nowhere"), 1);
     CHECK(is_found(unibi_from_term("xone")) && is_found(unibi_from_term("xtwo")) && unibi_from_term("xthree") == NULL);
@@ -321,6 +367,7 @@ static void test_search(void) {
     setenv("HOME", long_name, 1);
     CHECK(unibi_from_term("xone") == NULL);
     setenv("HOME", folder, 1);
+    CHECK(next_file() == next);
 }
 
 /* ---- expansion */
@@ -362,6 +409,7 @@ static void test_run(void) {
 }
 
 static void test_format(void) {
+    static char long_text[2001];
     unibi_var_t dynamic[26] = {{0, NULL}}, fixed[26] = {{0, NULL}}, param[9] = {unibi_var_from_num(5)};
     unibi_format(dynamic, fixed, "a$<5>b$<1.5*/>%p1%d$<2/>%p1%PzX%p1%{1}%+%PA", param, on_out, log_of_calls, on_pad, log_of_calls);
     /* The pieces between delays may come in any number of calls. */
@@ -370,6 +418,11 @@ static void test_format(void) {
     log_of_calls[0] = 0;
     unibi_format(dynamic, fixed, "%gz%d;%gA%d$<9>", param, on_out, log_of_calls, NULL, NULL);
     CHECK(strpbrk(log_of_calls, "<>$9") == NULL && strchr(log_of_calls, '5') != NULL && strchr(log_of_calls, '6') != NULL);
+    memset(long_text, 'l', 2000);
+    param[0] = unibi_var_from_str(long_text);
+    log_of_calls[0] = 0;
+    unibi_format(dynamic, fixed, "%p1%s", param, on_out, log_of_calls, NULL, NULL);
+    CHECK(strlen(log_of_calls) > 2000 && strstr(log_of_calls, "|l") == NULL);
 }
 
 /* ---- what Debian's library does not survive */
@@ -412,8 +465,13 @@ static void test_null(void) {
     CHECK(log_of_calls[0] == 0 && is(unibi_str_from_var(unibi_var_from_str(NULL)), ""));
     unibi_set_aliases(term, NULL);
     CHECK(unibi_dump(term, NULL, 0) < length);
+    errno = 0;
+    CHECK(unibi_dump(term, NULL, sizeof out) < length && errno == EFAULT);
+    unibi_set_ext_str_name(term, 0, NULL);
+    CHECK(unibi_dump(term, NULL, 0) == SIZE_MAX && errno == EINVAL);
+    unibi_set_ext_str_name(term, 0, "S");
     unibi_set_name(term, NULL);
-    CHECK(unibi_dump(term, NULL, 0) == SIZE_MAX);
+    CHECK(unibi_dump(term, NULL, 0) == SIZE_MAX && errno == EINVAL);
     unibi_destroy(term);
 }
 
@@ -451,9 +509,21 @@ static void test_indices(void) {
     unibi_destroy(term);
 }
 
-/* An entry of more than 4096 bytes, and files that are no regular ones. */
+/* What is cancelled is said to be absent, and a boolean to be false. */
+static void test_cancelled(void) {
+    static const char entry[] = "\32\1" "\2\0" "\2\0" "\1\0" "\1\0" "\0\0" "t\0" "\376\1" "\376\377" "\376\377"
+                                "\1\0" "\1\0" "\1\0" "\3\0" "\6\0" "\376\0" "\376\377" "\376\377" "\0\0" "\2\0" "\4\0" "F\0N\0S";
+    unibi_term *term = unibi_from_mem(entry, sizeof entry);
+    CHECK(term != NULL && unibi_get_bool(term, unibi_auto_left_margin) == 0 && unibi_get_bool(term, unibi_auto_right_margin) == 1);
+    CHECK(unibi_get_num(term, unibi_columns) == -1 && unibi_get_str(term, unibi_back_tab) == NULL);
+    CHECK(unibi_get_ext_bool(term, 0) == 0 && unibi_get_ext_num(term, 0) == -1 && unibi_get_ext_str(term, 0) == NULL);
+    CHECK(is(unibi_get_ext_bool_name(term, 0), "F") && is(unibi_get_ext_num_name(term, 0), "N") && is(unibi_get_ext_str_name(term, 0), "S"));
+    unibi_destroy(term);
+}
+
+/* An entry of more than 4096 bytes, files that are no regular ones, and a name that is longer than those of files. */
 static void test_sizes(void) {
-    static char dumped[40000], text[301];
+    static char dumped[40000], text[301], name[257];
     unibi_term *term = unibi_from_mem(bytes, length), *back;
     size_t count = unibi_count_ext_str(term), size;
     memset(text, 't', 300);
@@ -471,9 +541,12 @@ static void test_sizes(void) {
     CHECK(back != NULL && unibi_count_ext_str(back) == count + 60);
     unibi_destroy(back);
     unibi_destroy(term);
-    CHECK(mkfifo(in_folder("x/xpipe"), 0644) == 0 && unibi_from_term("xpipe") == NULL);
+    mkdir(in_folder(".terminfo/x"), 0755);
+    CHECK(mkfifo(in_folder(".terminfo/x/xpipe"), 0644) == 0 && unibi_from_term("xpipe") == NULL && errno == EINVAL);
     mkdir(in_folder("x/xfolder"), 0755);
     CHECK(unibi_from_term("xfolder") == NULL && unibi_from_file(in_folder("x/xfolder")) == NULL);
+    memset(name, 'x', 256);
+    CHECK(unibi_from_term(name) == NULL && errno == EINVAL);
     unsetenv("TERMINFO");
 }
 
@@ -507,7 +580,8 @@ static void test_refused(void) {
     unibi_set_ext_str(term, 0, "set");
     unibi_del_ext_str(term, 1);
     CHECK(is(unibi_get_str(term, unibi_bell), "bell") && is(unibi_get_ext_str(term, 0), "set") && unibi_count_ext_str(term) == count - 1);
-    CHECK(unibi_dump(term, NULL, 0) > 100);
+    errno = 0;
+    CHECK(unibi_dump(term, out, sizeof out) == SIZE_MAX && errno == ENOMEM);
     until_refused = 0;
     CHECK(unibi_run("%p1%s", param, out, 5) == 0);
     until_refused = -1;
@@ -528,6 +602,7 @@ int main(int count, char **words) {
     test_extended();
     test_names();
     test_dump();
+    test_bytes();
     test_faults();
     test_files();
     test_search();
@@ -537,8 +612,10 @@ int main(int count, char **words) {
         test_arithmetic();
         test_null();
         test_indices();
+        test_cancelled();
         test_sizes();
         test_refused();
+        CHECK(held == 0);
     }
     printf("unibilium: %d passed, %d failed\n", passed, failed);
     return failed != 0;
