@@ -398,7 +398,7 @@ def encode(
     words = [_mark("numbers", one, -(2**31), 2**31 - 1) for one in [*lists[1], *(value for _, value in named[1])]]
     items = [_text_item(one, held) for one in [*lists[2], *(value for _, value in named[2])]]
     called = [_lent("extended", name, held) for kind in named for name, _ in kind]
-    filled = [
+    filled: list[Any] = [
         (c_int8 * len(marks))(*marks), (c_int32 * len(words))(*words), (_TextItem * len(items))(*items), (_Bytes * len(called))(*called)
     ]
     arrays = _Arrays(*(part for one in filled for part in (cast(one, c_void_p), len(one))))
