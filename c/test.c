@@ -1646,7 +1646,7 @@ int main(void) {
     test_sending();
     test_sending_compiled();
     test_strings();
-    expect(ti_version() == 768, "version 0.3.0");
+    expect(ti_version() == 1024, "version 0.4.0");
     printf("c: %d passed, %d failed\n", passed, failed);
     return failed != 0;
 }

@@ -52,7 +52,7 @@ extern "C" {
 #endif
 
 /* The version of this header; ti_version() returns the version of the library. */
-#define TI_VERSION 0x000300
+#define TI_VERSION 0x000400
 
 enum {
     TI_DONE = 0,
@@ -526,7 +526,7 @@ TI_INLINE const char *ti_reason(uint32_t number) {
     return (const char *)message.bytes;
 }
 
-/* The version of the library: 65536 times its first number, 256 times its second, and its third. For 0.3.0 it is 768. */
+/* The version of the library: 65536 times its first number, 256 times its second, and its third. For 0.4.0 it is 1024. */
 uint32_t ti_version(void);
 
 TI_INLINE ti_parameter ti_number(int32_t number) {

@@ -21,7 +21,7 @@ name that nothing has raises KeyError, an argument of another type TypeError, an
 """
 
 # Where the library is, from this folder. If it is not there, the loader looks for the last part of it. The compiled module has it inside.
-LIBRARY = "libti.so.0.3"
+LIBRARY = "libti.so.0.4"
 
 try:
     from mogyarsu._compiled import Capability, Entry, Fault, Limits, Variables, check, encode, expand, pad, send, version

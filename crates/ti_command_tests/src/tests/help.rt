@@ -22,7 +22,7 @@ ti lint --help | Usage: ti lint [OPTIONS] [FILE]... | ti lint --explain [WORD]..
 ti convert --help | canonical | --force | Example => -
 ti diff --help | Usage: ti diff [OPTIONS] [FILE] <OTHER> | --expand | standard input | status 1 | Example => -
 ti get --help | <NAME> | < ENTRY | --entry <FILE> | cursor_address | flag#N | as tput does | Example => -
-ti --version | ti 0.3.0\n => -
+ti --version | ti 0.4.0\n => -
 ";
 
 /// Adds the help that words ask for.
