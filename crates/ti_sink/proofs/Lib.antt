@@ -1,1 +1,2 @@
 pub mod PagesLemmas
+pub mod PrintedLemmas

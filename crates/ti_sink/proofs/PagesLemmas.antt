@@ -4,12 +4,15 @@ use Rattle.std.specs.List.{list_all}
 use Rattle.std.specs.Prelude.{OnErr, OnOk, fold}
 use Rattle.std.proofs.lemmas.Bool.{and_from, and_parts}
 use Rattle.std.proofs.lemmas.List.Folds.{list_all-append}
+use Rattle.ti_escape.proofs.PrintableLemmas.{has_no_space, label_chars_printable}
 use Rattle.ti_escape.specs.Colors.{closing, opening}
+use Rattle.ti_escape.specs.Laws.{is_printable}
+use Rattle.ti_escape.specs.Notation.{label_notation}
 use Rattle.ti_escape.specs.declared.color.Color.{Color}
 use Rattle.ti_escape.specs.declared.color.Color.TheVariants.{Always, Never}
 use Rattle.ti_escape.specs.declared.color.Style.{Style}
 use Rattle.ti_escape.specs.declared.color.Style.TheVariants.{Bold, Faint, Green, Red}
-use Rattle.ti_sink.specs.Pages.{AfterEscape, AmongDigits, Between, Nowhere, Place, StaysPage, is_between, is_page, is_plain, next_place}
+use Rattle.ti_sink.specs.Pages.{AfterEscape, AmongDigits, Between, Nowhere, Place, StaysPage, as_page, is_between, is_page, is_plain, next_place}
 
 between : (place : Place) → is_between place ≡ true → place ≡ Between
 between Between is = refl
@@ -31,6 +34,20 @@ plain_page Never chars all = all
 plain_page Always [] all = refl
 plain_page Always (char ∷ chars) all =
     let (first, more) = and_parts (is_plain char) (list_all is_plain chars) all in rw first (plain_page Always chars more)
+
+-- characters that may stand in a page stand there as they are
+pub plain_as_page : (chars : List ℕ) → list_all is_plain chars ≡ true → as_page chars ≡ chars
+plain_as_page [] all = refl
+plain_as_page (char ∷ chars) all =
+    let (first, more) = and_parts (is_plain char) (list_all is_plain chars) all in rw first (ap (λ l. char ∷ l) (plain_as_page chars more))
+
+printable_plain : (chars : List ℕ) → list_all is_printable chars ≡ true → list_all is_plain chars ≡ true
+printable_plain [] all = refl
+printable_plain (char ∷ chars) all =
+    let (first, more) = and_parts (is_printable char) (list_all is_printable chars) all in rw first (printable_plain chars more)
+
+pub label_page : (color : Color) (name : List ℕ) → is_page color (label_notation name) ≡ true
+label_page color name = plain_page color (label_notation name) (printable_plain (label_notation name) (label_chars_printable (label_notation name) (has_no_space name)))
 
 pub opening_page : (color : Color) (style : Style) → is_page color (opening color style) ≡ true
 opening_page Never style = refl

@@ -1,8 +1,9 @@
 -- What may stand in a page.
-use Rattle.std.specs.List.{list_all}
-use Rattle.std.specs.Prelude.{◌≡◌, ◌==◌, ◌&&◌, ◌||◌, ℕ, Bool, true, false, List, [], ◌∷◌, codes, fold, nat_le, if◌then◌else◌}
+use Rattle.std.specs.List.{flat_map, list_all}
+use Rattle.std.specs.Prelude.{◌≡◌, ◌==◌, ◌&&◌, ◌||◌, ℕ, Bool, true, false, List, [], ◌∷◌, ◌++◌, codes, fold, nat_le, if◌then◌else◌}
 use Rattle.ti_base.specs.Letters.{letter}
 use Rattle.ti_escape.specs.Laws.{is_printable}
+use Rattle.ti_escape.specs.Notation.{octal}
 use Rattle.ti_escape.specs.declared.color.Color.{Color}
 use Rattle.ti_escape.specs.declared.color.Color.TheVariants.{Always, Never}
 
@@ -17,9 +18,21 @@ pub record Keeps (old new : Paged) : Type 0 where
   pub color : new.color ≡ old.color
   pub is_refused : old.is_refused ≡ true → new.is_refused ≡ true
 
+-- unless memory was refused, these come after what was there
+pub record Writes (these : List ℕ) (old new : Paged) : Type 0 where
+  pub kept : new.is_refused ≡ false → old.is_refused ≡ false
+  pub added : new.is_refused ≡ false → new.bytes ≡ old.bytes ++ these
+
 -- a character that can be printed, a tab or the end of a line
 abbrev pub is_plain : ℕ → Bool
 is_plain char = is_printable char || (char == letter (codes "\t") || char == letter (codes "\n"))
+
+-- a byte as a page has it, and bytes
+abbrev pub in_page : ℕ → List ℕ
+in_page byte = if is_plain byte then byte ∷ [] else octal byte
+
+abbrev pub as_page : List ℕ → List ℕ
+as_page bytes = flat_map in_page bytes
 
 -- ---- color
 

@@ -1,14 +1,17 @@
 //! A page of lines for people.
 
 ghost use Rattle.std.specs.List.{list_all};
-ghost use Rattle.std.specs.Prelude.{◌≡◌, [], false, true, length, IfErr, IfOk};
-ghost use Rattle.ti_sink.specs.Pages.{Keeps, StaysPage, is_page, is_plain as the_is_plain};
+ghost use Rattle.std.specs.Prelude.{◌≡◌, ◌++◌, [], false, true, length, IfErr, IfOk, OnOk};
+ghost use Rattle.ti_escape.specs.Notation.{label_notation};
+ghost use Rattle.ti_sink.specs.Pages.{Keeps, StaysPage, Writes, as_page, in_page, is_page, is_plain as the_is_plain};
 
 use crate::octal::octal;
 use itoa::Buffer;
 use std::alloc::{AllocError, Allocator, Global};
 use std::marker::Model;
-use ti_escape::{Color, Form, Style, push_closing, push_formed, push_opening, push_shown};
+use ti_escape::{
+    Color, Form, Style, push_closing, push_formed, push_label, push_opening, push_shown,
+};
 
 /// Lines for people. Each byte is a character from the space to `~`, a tab or the end of a line, and with color also one of a whole
 /// control sequence SGR. Once memory was refused, there is no text.
@@ -33,42 +36,69 @@ impl<A: Allocator> Model for Page<A> {
 }
 
 /// Whether a byte may stand in a page.
-fn is_plain(byte: u8) -> bool
+pub fn is_plain(byte: u8) -> bool
     ensures { result ≡ the_is_plain byte }
 {
-    matches!(byte, b' '..=b'~' | b'\t' | b'\n')
+    (b' '..=b'~').contains(&byte) | (byte == b'\t') | (byte == b'\n')
 }
 
-/// Whether all bytes may.
+/// Whether all bytes may. Each is looked at, also after one that may not, so that the compiler takes many of them at once.
 fn are_plain(bytes: &[u8]) -> bool
     ensures { result ≡ list_all the_is_plain bytes.now }
 {
-    bytes.iter().all(|byte| is_plain(*byte))
+    let mut plain = true;
+    'bytes: for byte in bytes {
+        plain &= is_plain(*byte);
+    }
+    plain
 }
 
 /// Appends characters that may stand in a page.
 fn push_plain<A: Allocator>(out: &mut Vec<u8, A>, chars: &[u8]) -> Result<(), AllocError>
     requires { list_all the_is_plain chars.now ≡ true }
-    ensures { StaysPage out.old.items out.new.items }
+    ensures stays { StaysPage out.old.items out.new.items }
+    ensures text { OnOk result (out.new.items ≡ out.old.items ++ chars.now) }
 {
     out.extend_from_slice(chars)
 }
 
-/// Appends bytes. One that may not stand in a page is written in octal.
+/// Appends a byte. One that may not stand in a page is written in octal.
+fn push_byte<A: Allocator>(out: &mut Vec<u8, A>, byte: u8) -> Result<(), AllocError>
+    ensures stays { StaysPage out.old.items out.new.items }
+    ensures text { OnOk result (out.new.items ≡ out.old.items ++ in_page byte) }
+{
+    if is_plain(byte) {
+        push_plain(out, &[byte])
+    } else {
+        push_plain(out, &octal(byte))
+    }
+}
+
+/// Appends bytes.
 fn push_bytes<A: Allocator>(out: &mut Vec<u8, A>, bytes: &[u8]) -> Result<(), AllocError>
-    ensures { StaysPage out.old.items out.new.items }
+    ensures stays { StaysPage out.old.items out.new.items }
+    ensures text { OnOk result (out.new.items ≡ out.old.items ++ as_page bytes.now) }
 {
     if are_plain(bytes) {
         return push_plain(out, bytes);
     }
     'bytes: for byte in bytes {
-        if is_plain(*byte) {
-            push_plain(out, &[*byte])?;
-        } else {
-            push_plain(out, &octal(*byte))?;
-        }
+        push_byte(out, *byte)?;
     }
     Ok(())
+}
+
+/// Appends a page of the same color.
+fn push_page<A: Allocator>(
+    out: &mut Vec<u8, A>,
+    color: Color,
+    page: &[u8],
+) -> Result<(), AllocError>
+    requires { is_page color page.now ≡ true }
+    ensures stays { is_page color out.old.items ≡ true → is_page color out.new.items ≡ true }
+    ensures text { OnOk result (out.new.items ≡ out.old.items ++ page.now) }
+{
+    out.extend_from_slice(page)
 }
 
 impl<A: Allocator> Page<A> {
@@ -95,6 +125,14 @@ impl<A: Allocator> Page<A> {
         self.is_refused
     }
 
+    /// Remembers that memory was refused for what should be written.
+    pub fn refuse(&mut self)
+        ensures kept { Keeps self.old self.new }
+        ensures is_refused { self.new.is_refused ≡ true }
+    {
+        self.is_refused = true;
+    }
+
     /// How many bytes were written.
     pub fn len(&self) -> usize
         ensures { result ≡ length self.now.bytes }
@@ -104,14 +142,16 @@ impl<A: Allocator> Page<A> {
 
     /// Writes bytes. One that may not stand in a page is written in octal.
     pub fn bytes(&mut self, bytes: &[u8])
-        ensures { Keeps self.old self.new }
+        ensures kept { Keeps self.old self.new }
+        ensures text { Writes (as_page bytes.now) self.old self.new }
     {
         self.is_refused |= push_bytes(&mut self.bytes, bytes).is_err();
     }
 
     /// Writes a text, such as `height: `.
     pub fn put(&mut self, text: &str)
-        ensures { Keeps self.old self.new }
+        ensures kept { Keeps self.old self.new }
+        ensures text { Writes (as_page text.now) self.old self.new }
     {
         self.bytes(text.as_bytes())
     }
@@ -154,6 +194,38 @@ impl<A: Allocator> Page<A> {
         self.buffer.clear();
         let is_refused = push_shown(&mut self.buffer, form, text).is_err();
         self.flush(is_refused)
+    }
+
+    /// Writes a name in the notation, with `\s` for each space.
+    pub fn label(&mut self, name: &[u8])
+        ensures kept { Keeps self.old self.new }
+        ensures text { Writes (label_notation name.now) self.old self.new }
+    {
+        self.is_refused |= push_label(&mut self.bytes, name).is_err();
+    }
+
+    /// Writes another page, which has to be of the same color.
+    pub fn append(&mut self, other: &Page<A>)
+        ensures kept { Keeps self.old self.new }
+        ensures text { Writes other.now.bytes self.old self.new }
+        ensures refused { other.now.is_refused ≡ true → self.new.is_refused ≡ true }
+    {
+        if other.is_refused || other.color != self.color {
+            self.is_refused = true;
+        } else {
+            self.is_refused |= push_page(
+                &mut self.bytes,
+                self.color,
+                other.bytes.as_slice(),
+            ).is_err();
+        }
+    }
+
+    /// What was written.
+    pub(crate) fn written(&self) -> &[u8]
+        ensures { result.now ≡ self.now.bytes }
+    {
+        self.bytes.as_slice()
     }
 
     /// Writes spaces.

@@ -1,15 +1,16 @@
 //! A document of JSON.
 
-ghost use Rattle.std.specs.List.{list_all};
-ghost use Rattle.std.specs.Prelude.{◌≡◌, [], false, true, IfErr, IfOk};
+ghost use Rattle.std.specs.List.{flat_map, list_all};
+ghost use Rattle.std.specs.Prelude.{◌≡◌, ◌++◌, ℕ, List, [], false, true, IfErr, IfOk, IfSome, OnOk};
 ghost use Rattle.ti_escape.specs.Laws.{is_printable};
-ghost use Rattle.ti_sink.specs.Printed.{GoesOn, Keeps};
+ghost use Rattle.ti_sink.specs.Printed.{AddsObject, GoesOn, Keeps, StaysFront, as_string, first_member, in_string};
 
 use crate::octal::octal;
+use crate::page::Page;
 use itoa::Buffer;
 use std::alloc::{AllocError, Allocator, Global};
 use std::marker::Model;
-use ti_escape::push_notation;
+use ti_escape::{Form, push_formed, push_label};
 
 /// How many objects and lists may be open.
 const MOST_OPEN: usize = 16;
@@ -52,23 +53,34 @@ impl<A: Allocator> Model for Printer<A> {
     ghost invariant = { λ p. list_all is_printable p.bytes.items ≡ true };
 }
 
+/// Appends characters that need no escape.
+fn push_chars<A: Allocator>(out: &mut Vec<u8, A>, chars: &[u8]) -> Result<(), AllocError>
+    requires { list_all is_printable chars.now ≡ true }
+    ensures kept { GoesOn out.old.items out.new.items }
+    ensures text { OnOk result (out.new.items ≡ out.old.items ++ chars.now) }
+{
+    out.extend_from_slice(chars)
+}
+
 /// Appends a byte as it stands in a string.
 fn push_byte<A: Allocator>(out: &mut Vec<u8, A>, byte: u8) -> Result<(), AllocError>
-    ensures { GoesOn out.old.items out.new.items }
+    ensures kept { GoesOn out.old.items out.new.items }
+    ensures text { OnOk result (out.new.items ≡ out.old.items ++ in_string byte) }
 {
     match byte {
-        b'"' | b'\\' => out.extend_from_slice(&[b'\\', byte]),
-        b' '..=b'~' => out.extend_from_slice(&[byte]),
+        b'"' | b'\\' => push_chars(out, &[b'\\', byte]),
+        b' '..=b'~' => push_chars(out, &[byte]),
         _ => {
-            out.extend_from_slice(b"\\")?;
-            out.extend_from_slice(&octal(byte))
+            push_chars(out, b"\\")?;
+            push_chars(out, &octal(byte))
         }
     }
 }
 
 /// Appends bytes as they stand in a string.
 fn push_bytes<A: Allocator>(out: &mut Vec<u8, A>, bytes: &[u8]) -> Result<(), AllocError>
-    ensures { GoesOn out.old.items out.new.items }
+    ensures kept { GoesOn out.old.items out.new.items }
+    ensures text { OnOk result (out.new.items ≡ out.old.items ++ flat_map in_string bytes.now) }
 {
     'bytes: for byte in bytes {
         push_byte(out, *byte)?;
@@ -78,11 +90,32 @@ fn push_bytes<A: Allocator>(out: &mut Vec<u8, A>, bytes: &[u8]) -> Result<(), Al
 
 /// Appends bytes as a string.
 fn push_string<A: Allocator>(out: &mut Vec<u8, A>, bytes: &[u8]) -> Result<(), AllocError>
-    ensures { GoesOn out.old.items out.new.items }
+    ensures kept { GoesOn out.old.items out.new.items }
+    ensures text { OnOk result (out.new.items ≡ out.old.items ++ as_string bytes.now) }
 {
-    out.extend_from_slice(b"\"")?;
+    push_chars(out, b"\"")?;
     push_bytes(out, bytes)?;
-    out.extend_from_slice(b"\"")
+    push_chars(out, b"\"")
+}
+
+/// Appends an object: a member that is a word, and the rest.
+fn push_object<A: Allocator>(
+    out: &mut Vec<u8, A>,
+    name: &str,
+    word: &str,
+    rest: &[u8],
+) -> Result<(), AllocError>
+    requires { list_all is_printable rest.now ≡ true }
+    ensures kept { GoesOn out.old.items out.new.items }
+    ensures text { OnOk result ((more : List ℕ)
+        × (out.new.items ≡ out.old.items ++ (first_member name.now word.now ++ more))) }
+{
+    push_chars(out, b"{")?;
+    push_string(out, name.as_bytes())?;
+    push_chars(out, b":")?;
+    push_string(out, word.as_bytes())?;
+    push_chars(out, b",")?;
+    push_chars(out, rest)
 }
 
 impl<A: Allocator> Printer<A> {
@@ -137,7 +170,8 @@ impl<A: Allocator> Printer<A> {
 
     /// Whether a call fits, which is remembered if it does not. If it does, writes the comma before what is not the first.
     fn starts(&mut self, fits: bool) -> bool
-        ensures { Keeps self.old self.new }
+        ensures kept { Keeps self.old self.new }
+        ensures fits { result ≡ false → self.new.is_misused ≡ true }
     {
         self.is_misused |= !fits;
         if fits && self.last == Last::Value {
@@ -148,7 +182,8 @@ impl<A: Allocator> Printer<A> {
 
     /// The same for a value.
     fn starts_value(&mut self) -> bool
-        ensures { Keeps self.old self.new }
+        ensures kept { Keeps self.old self.new }
+        ensures fits { result ≡ false → self.new.is_misused ≡ true }
     {
         let fits = match self.last {
             Last::Nothing | Last::Name => true,
@@ -221,7 +256,7 @@ impl<A: Allocator> Printer<A> {
         }
     }
 
-    /// Writes the digits of a number.
+    /// Writes a value that is no string.
     fn digits(&mut self, digits: &str)
         ensures { Keeps self.old self.new }
     {
@@ -260,15 +295,100 @@ impl<A: Allocator> Printer<A> {
         self.unsigned(count)
     }
 
+    /// Writes a member that is true.
+    pub fn yes(&mut self, name: &str)
+        ensures { Keeps self.old self.new }
+    {
+        self.key(name);
+        self.digits("true")
+    }
+
+    /// Writes a member that is the string in the buffer, for which memory was refused or not.
+    fn buffered(&mut self, name: &str, is_refused: bool)
+        ensures { Keeps self.old self.new }
+    {
+        self.is_refused |= is_refused;
+        self.key(name);
+        if self.starts_value() {
+            self.is_refused |= push_string(&mut self.bytes, self.buffer.as_slice()).is_err();
+            self.last = Last::Value;
+        }
+    }
+
+    /// Writes a member that is a string in a form.
+    pub fn formed(&mut self, name: &str, form: Form, text: &[u8])
+        ensures { Keeps self.old self.new }
+    {
+        self.buffer.clear();
+        let is_refused = push_formed(&mut self.buffer, form, text).is_err();
+        self.buffered(name, is_refused)
+    }
+
     /// Writes a member that is a string in the notation of terminfo(5).
     pub fn text(&mut self, name: &str, text: &[u8])
         ensures { Keeps self.old self.new }
     {
-        self.key(name);
+        self.formed(name, Form::Notation, text)
+    }
+
+    /// Writes a member that is a name in the notation, with `\s` for each space.
+    pub fn label(&mut self, name: &str, label: &[u8])
+        ensures { Keeps self.old self.new }
+    {
         self.buffer.clear();
-        self.is_refused |= push_notation(&mut self.buffer, text).is_err();
+        let is_refused = push_label(&mut self.buffer, label).is_err();
+        self.buffered(name, is_refused)
+    }
+
+    /// Writes a member that is `#` and a number, which calls what has no name.
+    pub fn index(&mut self, name: &str, index: usize)
+        ensures { Keeps self.old self.new }
+    {
+        let mut digits = Buffer::new();
+        self.buffer.clear();
+        let mut is_refused = self.buffer.extend_from_slice(b"#").is_err();
+        is_refused |= self
+            .buffer
+            .extend_from_slice(digits.format(index).as_bytes())
+            .is_err();
+        self.buffered(name, is_refused)
+    }
+
+    /// Writes a member that is the text of a page.
+    pub fn page(&mut self, name: &str, page: &Page<A>)
+        ensures kept { Keeps self.old self.new }
+        ensures refused { page.now.is_refused ≡ true → self.new.is_refused ≡ true }
+    {
+        self.is_refused |= page.is_refused();
+        self.key(name);
+        self.string(page.written())
+    }
+
+    /// What stands after the `{` of a whole object that has members; nothing of another document.
+    fn members(&self) -> Option<&[u8]>
+        ensures { IfSome result (λ rest. list_all is_printable rest.now ≡ true) }
+    {
+        match self.bytes.as_slice() {
+            [b'{', rest @ ..] if self.depth == 0 && rest.len() > 1 => Some(rest),
+            _ => None,
+        }
+    }
+
+    /// Writes an object: a member that is a word, and then the members of another object, which has some.
+    pub fn object(&mut self, name: &str, word: &str, other: &Printer<A>)
+        ensures kept { Keeps self.old self.new }
+        ensures object { AddsObject (first_member name.now word.now) self.old self.new }
+        ensures refused { other.now.is_refused ≡ true → self.new.is_refused ≡ true }
+        ensures misused { other.now.is_misused ≡ true → self.new.is_misused ≡ true }
+    {
+        self.is_refused |= other.is_refused;
+        self.is_misused |= other.is_misused;
+        let Some(rest) = other.members() else {
+            self.is_misused = true;
+            return;
+        };
         if self.starts_value() {
-            self.is_refused |= push_string(&mut self.bytes, self.buffer.as_slice()).is_err();
+            self.is_refused |= push_object(&mut self.bytes, name, word, rest).is_err();
             self.last = Last::Value;
         }
     }
@@ -293,6 +413,7 @@ impl<A: Allocator> Printer<A> {
     /// Memory was refused.
     pub fn finish(mut self) -> Result<Vec<u8, A>, AllocError>
         ensures printable { IfOk result (λ bytes. list_all is_printable bytes.items ≡ true) }
+        ensures written { IfOk result (λ bytes. StaysFront self.bytes bytes.items) }
         ensures refused { IfOk result (λ _. self.is_refused ≡ false) }
     {
         self.close();
