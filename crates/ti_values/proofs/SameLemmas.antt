@@ -1,9 +1,13 @@
 -- The earlier texts in a map, each with its place.
-use Rattle.std.proofs.Common.{◌≡◌, ◌∙◌, ◌<◌, ℕ, ◌+◌, ◌⊎◌, inl, inr, List, ap, arith, Bool, true, false, cond, refl, sym, Option, Some, None}
+use Rattle.std.proofs.Common.{◌≡◌, ◌∙◌, ◌<◌, ◌≤◌, ℕ, ◌+◌, ◌⊎◌, inl, inr, List, ap, arith, Bool, true, false, true≢false, cond, length, refl, subst, sym, Option, Some, None, Ordering, Less, Equal, Greater, nat_cmp}
+use Rattle.std.specs.Cmp.{ranks}
+use Rattle.std.specs.Ordering.{MatchOrdering, is_lt, ordering_reverse}
+use Rattle.std.specs.Bool.{OnTrue}
 use Rattle.std.specs.Map.{update}
 use Rattle.std.specs.Str.{bytes_eq}
-use Rattle.std.specs.Cmp.Lexicographic.{bytes_decides}
+use Rattle.std.specs.Cmp.Lexicographic.{bytes_decides, nat_list_cmp_total, slice_cmp}
 use Rattle.ti_values.specs.Findings.{IsSameAt, sent_at}
+use Rattle.ti_values.specs.inner.Rising.{IsBefore}
 
 -- a look-up finds exactly the first so many, each at its place
 pub record FindsEarlier (all : List (List ℕ)) (n : ℕ) (find : List ℕ → Option ℕ) : Type 0 where
@@ -60,3 +64,53 @@ finds_more all n find new finds absent is = record { has = has; only = only }
         by false e =
             let old = finds.only text k (sym (is text ∙ ap (λ b. cond b (Some n) (find text)) e) ∙ found) in
             (omega (arith, old.0), old.1)
+
+-- ---- outputs that rise
+
+less : (r : Ordering) → is_lt r ≡ true → r ≡ Less
+less Less e = refl
+less Equal e = absurd (true≢false (sym e))
+less Greater e = absurd (true≢false (sym e))
+
+pub before_by_bytes : (one other : List ℕ) (b : Bool) → Equal ≡ nat_cmp (length one) (length other) → b ≡ is_lt (slice_cmp nat_cmp one other)
+    → OnTrue b (IsBefore one other)
+before_by_bytes one other true same is = inr (tied (nat_cmp (length one) (length other)) same (ranks (length one) (length other)), sym is)
+  where
+    tied : (r : Ordering) → Equal ≡ r → MatchOrdering r (length one < length other) (length one ≡ length other) (length other < length one) → length one ≡ length other
+    tied r e it = subst (λ o. MatchOrdering o (length one < length other) (length one ≡ length other) (length other < length one)) (sym e) it
+before_by_bytes one other false same is = tt
+
+pub before : (one other : List ℕ) (b : Bool) → b ≡ true → OnTrue b (IsBefore one other) → IsBefore one other
+before one other b e it = subst (λ r. OnTrue r (IsBefore one other)) e it
+
+before_trans : (one two other : List ℕ) → IsBefore one two → IsBefore two other → IsBefore one other
+before_trans one two other (inl a) (inl b) = inl (omega (arith, a, b))
+before_trans one two other (inl a) (inr b) = inl (omega (arith, a, b.0))
+before_trans one two other (inr a) (inl b) = inl (omega (arith, a.0, b))
+before_trans one two other (inr a) (inr b) =
+    inr (a.0 ∙ b.0, ap is_lt (nat_list_cmp_total.trans one two other (less (slice_cmp nat_cmp one two) a.1) (less (slice_cmp nat_cmp two other) b.1)))
+
+not_before_itself : (text : List ℕ) → ¬ IsBefore text text
+not_before_itself text (inl a) = absurd (omega (arith, a))
+not_before_itself text (inr a) =
+    let is : slice_cmp nat_cmp text text ≡ Less = less (slice_cmp nat_cmp text text) a.1 in
+    let both : Less ≡ Greater = sym is ∙ nat_list_cmp_total.antisymm text text ∙ ap ordering_reverse is in cc
+
+-- each of the first so many is before those after it
+abbrev pub Rises : List (List ℕ) → ℕ → Type 0
+Rises all n = (one other : ℕ) → one < other → other < n → IsBefore (sent_at all one) (sent_at all other)
+
+pub rises_more : (all : List (List ℕ)) (n next : ℕ) → next ≡ n + 1 → Rises all next → IsBefore (sent_at all n) (sent_at all next) → Rises all (next + 1)
+rises_more all n next is rises step one other low within = by (grind arith)
+  where
+    last : (one < n) ⊎ (one ≡ n) → IsBefore (sent_at all one) (sent_at all next)
+    last (inl lower) = before_trans (sent_at all one) (sent_at all n) (sent_at all next) (rises one n lower (omega (arith, is))) step
+    last (inr same) = subst (λ k. IsBefore (sent_at all k) (sent_at all next)) (sym same) step
+
+    by : (other < next) ⊎ (other ≡ next) → IsBefore (sent_at all one) (sent_at all other)
+    by (inl it) = rises one other low it
+    by (inr it) = subst (λ k. IsBefore (sent_at all one) (sent_at all k)) (sym it) (last (grind (arith, is, it, low)))
+
+pub none_same : (all : List (List ℕ)) (n : ℕ) → length all ≤ n → Rises all n → (one other : ℕ) → ¬ IsSameAt all one other
+none_same all n whole rises one other same =
+    not_before_itself (sent_at all other) (subst (λ text. IsBefore text (sent_at all other)) same.2 (rises one other same.0 (omega (arith, same.1, whole))))

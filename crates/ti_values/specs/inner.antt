@@ -2,3 +2,4 @@
 pub mod Rate
 pub mod Rows
 pub mod Underway
+pub mod Rising
