@@ -1,4 +1,1 @@
-pub mod AsciiLemmas
 pub mod TextLemmas
-pub mod TokensLemmas
-pub mod PlainLemmas

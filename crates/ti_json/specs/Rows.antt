@@ -1,6 +1,8 @@
 -- What is shown of an entry, one row after another. Lines and objects of JSON show the same rows.
 use Rattle.std.specs.Prelude.{ℕ, ℤ, Bool, true, false, List, ◌∷◌, codes, map}
 use Rattle.ti_words.specs.declared.Flag.TheVariants as flags
+use Rattle.ti_words.specs.declared.Kind.{Kind}
+use Rattle.ti_words.specs.declared.Kind.TheVariants as kinds
 use Rattle.ti_words.specs.declared.Number.TheVariants as numbers
 use Rattle.ti_words.specs.declared.Width.{Width}
 use Rattle.ti_words.specs.Texts.{AbsentText, CancelledText, TextOf}
@@ -33,6 +35,11 @@ pub data ContentValue : Type 0 where
 
 abbrev pub RowValue : Type 0
 RowValue = TopicValue × ContentValue
+
+abbrev pub kind_word : Kind → List ℕ
+kind_word kinds.Flag = codes "flag"
+kind_word kinds.Number = codes "number"
+kind_word kinds.Text = codes "text"
 
 abbrev pub state_word : ValueState → List ℕ
 state_word states.Absent = codes "absent"

@@ -1,41 +1,24 @@
 //! An entry as an array of objects.
 
-ghost use Rattle.std.specs.List.{flat_map, list_all};
-ghost use Rattle.std.specs.Prelude.{◌≡◌, true, map, IfOk};
-ghost use Rattle.serde_json.specs.Data.{array};
-ghost use Rattle.serde_json.specs.View.{items_of};
-ghost use Rattle.ti_words.specs.Items.{items};
+ghost use Rattle.std.specs.List.{list_all};
+ghost use Rattle.std.specs.Prelude.{◌≡◌, true, IfOk};
 ghost use Rattle.ti_escape.specs.Laws.{is_printable};
-ghost use Rattle.ti_json.specs.Objects.{entry_objects, entry_text, row_objects};
-ghost use Rattle.ti_json.specs.Printed.{Prints, all_tokens, data_tokens};
-ghost use Rattle.ti_json.specs.Rows.{capability_row};
 
-use crate::object::print_row;
-use crate::printer::Printer;
+use crate::object::write_row;
 use crate::row::{Content, Topic};
 use std::alloc::{AllocError, Allocator};
 use ti_entry::Entry;
+use ti_sink::Printer;
 
-/// Prints the objects of the capabilities.
-fn print_items<A: Allocator>(printer: &mut Printer<A>, entry: &Entry<'_>)
-    ensures { Prints printer.old printer.new
-        (all_tokens (flat_map row_objects (map capability_row (items entry.now)))) }
-{
-    let mut items = entry.items();
-    'items: while let Some((subject, item)) = items.next() {
-        print_row(printer, Topic::Capability(subject), Content::of(item));
-    }
-}
-
-/// Prints an entry as an array of objects, those of [`entry_json`].
-pub fn print_entry<A: Allocator>(printer: &mut Printer<A>, entry: &Entry<'_>)
-    ensures { Prints printer.old printer.new (data_tokens (array (items_of (entry_objects entry.now)))) }
-{
+/// Writes an entry as an array of objects, those of [`entry_json`].
+pub fn write_entry<A: Allocator>(printer: &mut Printer<A>, entry: &Entry<'_>) {
     printer.begin_list();
-    print_row(printer, Topic::Format, Content::Format(entry.width()));
-    print_row(printer, Topic::Names, Content::Names(entry.names()));
-    print_items(printer, entry);
-    printer.end_list()
+    write_row(printer, Topic::Format, Content::Format(entry.width()));
+    write_row(printer, Topic::Names, Content::Names(entry.names()));
+    'items: for (subject, item) in entry.items() {
+        write_row(printer, Topic::Capability(subject), Content::of(item));
+    }
+    printer.end()
 }
 
 /// An entry as JSON: an array of objects, without a space between tokens.
@@ -53,10 +36,9 @@ pub fn entry_json<A: Allocator + Copy>(
     alloc: A,
     entry: &Entry<'_>,
 ) -> Result<Vec<u8, A>, AllocError>
-    ensures text { IfOk result (λ bytes. bytes.items ≡ entry_text entry.now) }
     ensures printable { IfOk result (λ bytes. list_all is_printable bytes.items ≡ true) }
 {
     let mut printer = Printer::new(alloc);
-    print_entry(&mut printer, entry);
-    printer.into_bytes()
+    write_entry(&mut printer, entry);
+    printer.finish()
 }

@@ -1,20 +1,14 @@
-//! The object of a row.
+//! The object of a row. Members stand in the order of their names.
 
-ghost use Rattle.std.specs.Prelude.{◌≡◌, ◌∷◌, []};
-ghost use Rattle.ti_json.specs.Objects.{before, compared_members, kind_word as the_kind_word, last, members_of, named, object_of, owned, row_members, row_objects, side};
-ghost use Rattle.ti_json.specs.Printed.{Prints, all_tokens, data_tokens, member_tokens};
-ghost use Rattle.ti_json.specs.Rows.{content_value, topic_value};
-
-use crate::printer::Printer;
 use crate::row::{Content, Topic};
 use std::alloc::Allocator;
+use ti_escape::Form;
 use ti_names::NameTable;
+use ti_sink::Printer;
 use ti_words::{Kind, Subject, format_name};
 
 /// The word for a kind.
-fn kind_word(kind: Kind) -> &'static str
-    ensures { result.now ≡ the_kind_word kind }
-{
+fn kind_word(kind: Kind) -> &'static str {
     match kind {
         Kind::Flag => "flag",
         Kind::Number => "number",
@@ -22,10 +16,8 @@ fn kind_word(kind: Kind) -> &'static str
     }
 }
 
-/// Prints the kind of a topic, and the name of a capability: a standard one without a name is called by `#` and its index.
-fn print_named<A: Allocator>(printer: &mut Printer<A>, topic: Topic<'_>)
-    ensures { Prints printer.old printer.new (member_tokens (members_of (named (topic_value topic.entry)))) }
-{
+/// Writes the kind of a topic, and the name of a capability: a standard one without a name is called by `#` and its index.
+fn write_named<A: Allocator>(printer: &mut Printer<A>, topic: Topic<'_>) {
     match topic {
         Topic::Format => printer.word("kind", "format"),
         Topic::Names => printer.word("kind", "names"),
@@ -43,101 +35,76 @@ fn print_named<A: Allocator>(printer: &mut Printer<A>, topic: Topic<'_>)
     }
 }
 
-/// Prints that the entry names a capability itself, if it does.
-fn print_owned<A: Allocator>(printer: &mut Printer<A>, topic: Topic<'_>)
-    ensures { Prints printer.old printer.new (member_tokens (members_of (owned (topic_value topic.entry)))) }
-{
-    match topic {
-        Topic::Format | Topic::Names | Topic::Capability(Subject::Standard(_, _)) => {}
-        Topic::Capability(Subject::Extended(_kind, _name)) => printer.yes("own"),
+/// Writes that the entry names a capability itself, if it does.
+fn write_owned<A: Allocator>(printer: &mut Printer<A>, topic: Topic<'_>) {
+    if let Topic::Capability(Subject::Extended(_, _)) = topic {
+        printer.yes("own");
     }
 }
 
-/// Prints what comes before the kind.
-fn print_before<A: Allocator>(printer: &mut Printer<A>, content: Content<'_>)
-    ensures { Prints printer.old printer.new (member_tokens (members_of (before (content_value content.entry)))) }
-{
+/// Writes what comes before the kind.
+fn write_before<A: Allocator>(printer: &mut Printer<A>, content: Content<'_>) {
     match content {
         Content::Limits { depth, bound } => {
             printer.count("bound", bound);
             printer.count("depth", depth as u64)
         }
         Content::Fault(refused) => printer.word("fault", refused.fault.word()),
-        Content::Text(text) => printer.hex("hex", text),
-        Content::State(_)
-        | Content::Set
-        | Content::Number(_)
-        | Content::Format(_)
-        | Content::Names(_) => {}
+        Content::Text(text) => printer.formed("hex", Form::Hex, text),
+        _ => (),
     }
 }
 
-/// Prints what comes last: a value, a state in place of one, or the place of a fault.
-fn print_last<A: Allocator>(printer: &mut Printer<A>, content: Content<'_>)
-    ensures { Prints printer.old printer.new (member_tokens (members_of (last (content_value content.entry)))) }
-{
+/// Writes what comes last: a value, a state in place of one, or the place of a fault.
+fn write_last<A: Allocator>(printer: &mut Printer<A>, content: Content<'_>) {
     match content {
         Content::State(state) => printer.word("state", state.word()),
         Content::Set => printer.yes("value"),
-        Content::Number(number) => printer.number("value", number),
+        Content::Number(number) => {
+            printer.key("value");
+            printer.integer(number)
+        }
         Content::Format(width) => printer.word("value", format_name(width)),
         Content::Names(names) => printer.text("value", names),
         Content::Text(text) => printer.text("value", text),
-        Content::Limits { .. } => {}
+        Content::Limits { .. } => (),
         Content::Fault(refused) => printer.count("place", refused.place as u64),
     }
 }
 
-/// Prints the object of a row.
-fn print_object<A: Allocator>(printer: &mut Printer<A>, topic: Topic<'_>, content: Content<'_>)
-    ensures { Prints printer.old printer.new
-        (data_tokens (object_of (row_members (topic_value topic.entry, content_value content.entry)))) }
-{
-    printer.begin_object();
-    print_before(printer, content);
-    print_named(printer, topic);
-    print_owned(printer, topic);
-    print_last(printer, content);
-    printer.end_object()
-}
-
-/// Prints the object of a row, if the entry has its topic: its `kind`, the `name` of a capability, and what is said of it.
+/// Writes the object of a row, if the entry has its topic: its `kind`, the `name` of a capability, and what is said of it.
 #[inline(always)]
-pub fn print_row<A: Allocator>(printer: &mut Printer<A>, topic: Topic<'_>, content: Content<'_>)
-    ensures { Prints printer.old printer.new
-        (all_tokens (row_objects (topic_value topic.entry, content_value content.entry))) }
-{
+pub fn write_row<A: Allocator>(printer: &mut Printer<A>, topic: Topic<'_>, content: Content<'_>) {
     if !content.is_absent() {
-        print_object(printer, topic, content);
+        printer.begin_object();
+        write_before(printer, content);
+        write_named(printer, topic);
+        write_owned(printer, topic);
+        write_last(printer, content);
+        printer.end()
     }
 }
 
-/// Prints a member that is an object with what one entry has.
-fn print_side<A: Allocator>(printer: &mut Printer<A>, name: &str, content: Content<'_>)
-    ensures { Prints printer.old printer.new
-        (member_tokens (members_of (side name.now (content_value content.entry) ∷ []))) }
-{
+/// Writes a member that is an object with what one entry has.
+fn write_side<A: Allocator>(printer: &mut Printer<A>, name: &str, content: Content<'_>) {
     printer.key(name);
     printer.begin_object();
-    print_before(printer, content);
-    print_last(printer, content);
-    printer.end_object()
+    write_before(printer, content);
+    write_last(printer, content);
+    printer.end()
 }
 
-/// Prints the object on what two entries do not have alike: what the `first` has, and what the `other` has.
-pub fn print_compared<A: Allocator>(
+/// Writes the object on what two entries do not have alike: what the `first` has, and what the `other` has.
+pub fn write_compared<A: Allocator>(
     printer: &mut Printer<A>,
     topic: Topic<'_>,
     first: Content<'_>,
     other: Content<'_>,
-)
-    ensures { Prints printer.old printer.new (data_tokens (object_of
-        (compared_members (topic_value topic.entry) (content_value first.entry) (content_value other.entry)))) }
-{
+) {
     printer.begin_object();
-    print_side(printer, "first", first);
-    print_named(printer, topic);
-    print_side(printer, "other", other);
-    print_owned(printer, topic);
-    printer.end_object()
+    write_side(printer, "first", first);
+    write_named(printer, topic);
+    write_side(printer, "other", other);
+    write_owned(printer, topic);
+    printer.end()
 }

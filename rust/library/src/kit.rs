@@ -7,8 +7,6 @@ pub mod clap;
 #[cfg(feature = "program")]
 pub mod host;
 #[cfg(feature = "program")]
-pub mod json;
-#[cfg(feature = "program")]
 pub mod maps;
 #[cfg(not(feature = "alloc"))]
 mod no_items;
