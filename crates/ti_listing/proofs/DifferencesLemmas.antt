@@ -11,8 +11,6 @@ use Rattle.ti_words.specs.declared.Width.{Width}
 use Rattle.ti_line.specs.declared.options.Likeness.{Likeness}
 use Rattle.ti_entry.specs.Items.{IsItemOf}
 use Rattle.ti_listing.specs.Differences.{AreDifferences, AreSame, AreSameItems, AreTold, DifferenceValue, format_difference, IsChange, IsDifference, item_difference, names_difference, of_each_kind, subjects_of_both}
-use Rattle.ti_json.proofs.PlainLemmas.{HavePlain, compared_is_plain}
-use Rattle.ti_listing.specs.DifferingObjects.{difference_object}
 use Rattle.ti_listing.specs.Values.{difference_value}
 use Rattle.ti_listing.specs.declared.difference.Difference.{Difference}
 use Rattle.ti_listing.specs.inner.Differences.{Adds}
@@ -82,8 +80,3 @@ differences by v w a b c d none (x, p, f) (y, q, g) (z, r, h) = record {
   in_capabilities = r;
   joined = h ∙ ap (λ l. l ++ z) (g ∙ ap (λ l. l ++ y) (f ∙ ap (λ l. l ++ x) none));
 }
-
--- each character of their JSON can be printed
-pub differences_are_plain : (told : List DifferenceValue) → HavePlain (map difference_object told)
-differences_are_plain [] = tt
-differences_are_plain ((topic, first, other) ∷ ds) = (compared_is_plain topic first other, differences_are_plain ds)

@@ -5,7 +5,7 @@ use Rattle.ti_words.specs.Items.{ExtendedSubject, StandardSubject, SubjectValue}
 use Rattle.ti_names.specs.declared.name_table.NameTable.{NameTable}
 use Rattle.ti_names.specs.AllNames.{name_in}
 use Rattle.ti_escape.specs.Notation.{label_notation, notation}
-use Rattle.ti_json.specs.Objects.{kind_word}
+use Rattle.ti_json.specs.Rows.{kind_word}
 use Rattle.ti_line.specs.declared.options.NameForm.{NameForm}
 use Rattle.ti_line.specs.declared.options.NameForm.TheVariants as forms
 use Rattle.ti_line.specs.declared.options.Naming.{Naming}

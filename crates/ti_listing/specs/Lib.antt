@@ -2,6 +2,4 @@ pub mod Labels
 pub mod Listing
 pub mod Differences
 pub mod Values
-pub mod DifferingLines
-pub mod DifferingObjects
 pub mod inner

@@ -1,6 +1,6 @@
 -- The lines of rows, as `show`, `check` and `diff` write them.
 use Rattle.std.specs.List.{flat_map}
-use Rattle.std.specs.Prelude.{ℕ, true, List, [], ◌++◌, codes, decimal, if◌then◌else◌}
+use Rattle.std.specs.Prelude.{ℕ, List, [], ◌++◌, codes, decimal, if◌then◌else◌}
 use Rattle.std.specs.Fmt.{signed_decimal}
 use Rattle.ti_cap.specs.FaultNames.{cap_fault_word}
 use Rattle.ti_escape.specs.Forms.{shown}

@@ -1,9 +1,5 @@
 //! The differences of two entries, one item after another.
 
-ghost use Rattle.std.specs.Prelude.{◌≡◌};
-ghost use Rattle.ti_listing.specs.DifferingLines.{is_in_one as the_is_in_one};
-ghost use Rattle.ti_listing.specs.Values.{difference_value};
-
 use ti_json::{Content, Topic};
 
 /// The format, the names or a capability that two entries do not have alike.
@@ -19,9 +15,7 @@ pub struct Difference<'a> {
 
 impl Difference<'_> {
     /// Whether one entry lacks it.
-    pub fn is_in_one(self) -> bool
-        ensures { result ≡ the_is_in_one (difference_value self.entry) }
-    {
+    pub fn is_in_one(self) -> bool {
         self.first.is_absent() || self.other.is_absent()
     }
 }

@@ -1,30 +1,13 @@
 //! The JSON of what two entries do not have alike.
 
 ghost use Rattle.std.specs.List.{list_all};
-ghost use Rattle.std.specs.Prelude.{◌≡◌, IfOk, map, true};
+ghost use Rattle.std.specs.Prelude.{◌≡◌, IfOk, true};
 ghost use Rattle.ti_escape.specs.Laws.{is_printable};
-ghost use Rattle.ti_json.specs.Printed.{Prints, all_tokens};
-ghost use Rattle.ti_listing.specs.DifferingObjects.{difference_object, differing_text};
-ghost use Rattle.ti_listing.specs.Values.{difference_value};
 
 use crate::difference::Difference;
 use std::alloc::{AllocError, Allocator};
-use ti_json::{Printer, print_compared};
-
-/// Prints the objects of differences.
-fn print_differences<A: Allocator>(printer: &mut Printer<A>, differences: &[Difference<'_>])
-    ensures { Prints printer.old printer.new
-        (all_tokens (map difference_object (map difference_value differences.now))) }
-{
-    'differences: for difference in differences {
-        print_compared(
-            printer,
-            difference.topic,
-            difference.first,
-            difference.other,
-        );
-    }
-}
+use ti_json::write_compared;
+use ti_sink::Printer;
 
 /// Differences as JSON: an array with an object for each, without a space between tokens.
 ///
@@ -40,13 +23,13 @@ pub fn differing_json<A: Allocator + Copy>(
     alloc: A,
     differences: &[Difference<'_>],
 ) -> Result<Vec<u8, A>, AllocError>
-    ensures text { IfOk result (λ v. v.items
-        ≡ differing_text (map difference_value differences.now)) }
     ensures printable { IfOk result (λ v. list_all is_printable v.items ≡ true) }
 {
     let mut printer = Printer::new(alloc);
     printer.begin_list();
-    print_differences(&mut printer, differences);
-    printer.end_list();
-    printer.into_bytes()
+    'differences: for one in differences {
+        write_compared(&mut printer, one.topic, one.first, one.other);
+    }
+    printer.end();
+    printer.finish()
 }

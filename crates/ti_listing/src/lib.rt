@@ -1,7 +1,7 @@
 //! The capabilities of an entry, and the differences of two, as lines and as JSON.
 //!
-//! [`lines_of`] lists an entry, and [`push_row`] writes any row as a line. [`difference_of`] compares two: its list says of each item that they do not have alike what each of
-//! them has, and [`differing_lines`], [`grouped_lines`] and [`differing_json`] show it.
+//! [`lines_of`] lists an entry, and [`push_row`] writes any row as a line. [`difference_of`] compares two: its list says of each item that
+//! they do not have alike what each of them has, and [`differing_lines`], [`write_grouped`] and [`differing_json`] show it.
 #![tactic(auto)]
 
 mod change;
@@ -21,6 +21,6 @@ mod tokens;
 pub use diff::difference_of;
 pub use difference::Difference;
 pub use document::differing_json;
-pub use lines::{differing_lines, grouped_lines};
+pub use lines::{differing_lines, write_grouped};
 pub use listing::lines_of;
 pub use row_line::push_row;
