@@ -2,15 +2,13 @@
 
 ghost use Rattle.std.specs.Prelude.{◌≡◌, OnOk, true};
 ghost use Rattle.ti_allow.specs.Harmless.{IsSilent};
-ghost use Rattle.ti_report.specs.Controls.{AreControls, Keeps};
+ghost use Rattle.ti_report.specs.Controls.{AreControls};
 ghost use Rattle.ti_report.specs.Findings.{is_control};
 ghost use Rattle.ti_report.specs.Own.{asked_name};
-ghost use Rattle.ti_report.specs.inner.Held.{sending_held};
 
 use crate::judged::{Terminal, finding_on};
 use crate::own::asked_name;
 use crate::remark::{About, Evidence, NamedText, Remark};
-use crate::sending::{Sending, found_in};
 use crate::words::words_of;
 use std::alloc::{AllocError, Allocator};
 use ti_allow::{Found, place_in_text};
@@ -140,8 +138,8 @@ fn add_found<'a, A: Allocator + Copy>(
     )
 }
 
-/// Adds the remarks on what is found.
-fn add_all<'a, A: Allocator + Copy>(
+/// Adds the remarks on what is found in a string.
+pub fn add_look<'a, A: Allocator + Copy>(
     remarks: &mut Vec<Remark<'a, A>, A>,
     alloc: A,
     terminal: &Terminal<'_>,
@@ -155,23 +153,5 @@ fn add_all<'a, A: Allocator + Copy>(
     'found: for one in found {
         add_found(remarks, alloc, terminal, look, one)?;
     }
-    Ok(())
-}
-
-/// Adds the remarks on a string, as it is sent.
-pub fn add_look<'a, A: Allocator + Copy>(
-    remarks: &mut Vec<Remark<'a, A>, A>,
-    alloc: A,
-    terminal: &Terminal<'_>,
-    look: &Looked<'a>,
-    sending: Sending<'_>,
-) -> Result<(), AllocError>
-    ensures controls { OnOk result (AreControls remarks.old.items → AreControls remarks.new.items) }
-    ensures before { OnOk result (IsSilent remarks.new.items → IsSilent remarks.old.items) }
-    ensures keeps { OnOk result (terminal.now.untrusted ≡ true → IsSilent remarks.new.items
-        → Keeps look.now.name.now (sending_held sending.entry)) }
-{
-    let found = found_in(alloc, look.name, sending)?;
-    add_all(remarks, alloc, terminal, look, found.as_slice())?;
     Ok(())
 }

@@ -62,8 +62,15 @@ impl<'r, 'a, A: Allocator + Copy> Report<'r, 'a, A> {
         ensures { OnOk result (Gains (AreOnLooks terminal.now.untrusted
             (asked look.now.name.now (sending_held sending.entry) ∷ [])) self.old self.new) }
     {
+        let found = self.found_in(look.name, sending)?;
         let mut remarks = Vec::new(self.allocator());
-        add_look(&mut remarks, self.allocator(), terminal, look, sending)?;
+        add_look(
+            &mut remarks,
+            self.allocator(),
+            terminal,
+            look,
+            found.as_slice(),
+        )?;
         self.extend(remarks)?;
         Ok(())
     }
@@ -169,10 +176,23 @@ impl<'r, 'a, A: Allocator + Copy> Report<'r, 'a, A> {
         let mut remarks = Vec::new(self.allocator());
         let expanded = Sending::Expanded(subject.text);
         let look = Looked::of(terminal.untrusted, subject, stands(expanded));
-        add_look(&mut remarks, self.allocator(), terminal, &look, expanded)?;
+        let found = self.found_in(look.name, expanded)?;
+        add_look(
+            &mut remarks,
+            self.allocator(),
+            terminal,
+            &look,
+            found.as_slice(),
+        )?;
         let plain = Looked::of(terminal.untrusted, subject, true);
-        let sending = Sending::AsItStands(subject.text);
-        add_look(&mut remarks, self.allocator(), terminal, &plain, sending)?;
+        let found = self.found_in(plain.name, Sending::AsItStands(subject.text))?;
+        add_look(
+            &mut remarks,
+            self.allocator(),
+            terminal,
+            &plain,
+            found.as_slice(),
+        )?;
         self.extend(remarks)?;
         Ok(())
     }

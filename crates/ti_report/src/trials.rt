@@ -7,8 +7,10 @@ ghost use Rattle.std.specs.Prelude.{◌≡◌, ◌≤◌, IfSome, length, true};
 ghost use Rattle.ti_report.specs.Trials.{AreSentForSets, IsQuiet, most_quiet_texts, most_sent_texts};
 ghost use Rattle.ti_values.specs.Sent.{texts_of};
 
+use crate::harmless::Harmless;
 use std::alloc::{AllocError, Allocator, Global};
 use std::marker::Model;
+use std::mem::swap;
 use ti_values::Range;
 
 /// The most texts that are kept of which nothing is reported.
@@ -61,6 +63,7 @@ impl<A: Allocator> Model for SentText<A> {
 pub struct Trials<A: Allocator = Global> {
     quiet: Vec<QuietText<A>, A>,
     sent: Vec<SentText<A>, A>,
+    harmless: Harmless<A>,
     ghost few_quiet: { length quiet.items ≤ most_quiet_texts },
     ghost few_sent: { length sent.items ≤ most_sent_texts },
 }
@@ -89,7 +92,13 @@ impl<A: Allocator> Trials<A> {
         Trials {
             quiet: Vec::new(alloc),
             sent: Vec::new(alloc),
+            harmless: Harmless::new(alloc),
         }
+    }
+
+    /// Exchanges the strings in which nothing was found for others.
+    pub(crate) fn exchange(&mut self, harmless: &mut Harmless<A>) {
+        swap(&mut self.harmless, harmless);
     }
 
     /// Whether a text is kept as one of which nothing is reported.

@@ -1,6 +1,6 @@
 use Rattle.std.proofs.Common.{arith}
 use Rattle.ti_report.proofs.ControlsLemmas.{empty}
-use Rattle.ti_report.proofs.control_remarks.add_all.Goals as goal
+use Rattle.ti_report.proofs.control_remarks.add_look.Goals as goal
 
 pub returns-clause-silent : goal.returns-clause-silent
 returns-clause-silent g c = λ untrusted silent.

@@ -2,7 +2,7 @@
 use Rattle.std.proofs.Common.{◌≡◌, true}
 use Rattle.ti_allow.specs.Harmless.{IsSilent}
 use Rattle.ti_report.specs.Controls.{AreControls}
-use Rattle.ti_report.proofs.control_remarks.add_all.Given as goal
+use Rattle.ti_report.proofs.control_remarks.add_look.Given as goal
 
 abbrev pub invariant-found : goal.invariant-found
 invariant-found g l =
