@@ -1,5 +1,5 @@
 #!/usr/bin/env python3
-"""The explanations of findings, in ti_report/src/explanation.rt: the paragraphs of ti-findings(7), without its marks.
+"""The explanations of findings, in ti_report/src/forms/explanations.rt: the paragraphs of ti-findings(7), without its marks.
 
     docs/explanations.py [--write]
 
@@ -14,7 +14,7 @@ sys.dont_write_bytecode = True
 sys.path.insert(0, str(Path(__file__).resolve().parent.parent))
 from checks.machine import ROOT
 
-FILE = ROOT / "crates/ti_report/src/explanation.rt"
+FILE = ROOT / "crates/ti_report/src/forms/explanations.rt"
 ONLY_ALL = "Only with \\-\\-all"
 WIDTH = 78
 
@@ -48,75 +48,28 @@ def paragraphs() -> dict[str, tuple[str, str]]:
                 found[word] = found[word][0], f"{found[word][1]} With --all: {lowered(text)}"
             else:
                 found[word] = f"only with --all: {lowered(first)}", f"Only with --all: {lowered(text)}"
-    return found
-
-
-def variants() -> dict[str, list[str]]:
-    """For each word the variants that have it."""
-    found: dict[str, list[str]] = {}
-    for name in ["ti_lint/src/token_finding.rt", "ti_report/src/finding.rt"]:
-        code = (ROOT / "crates" / name).read_text()
-        for pattern, word in re.findall(r'((?:\w+::\w+(?:\(\w+\))?(?: \| )?)+) => (?:Row::of\(\s*)?"([a-z%]+(?:-[a-z]+)*)"', code):
-            found.setdefault(word, []).extend(re.sub(r"\(\w+\)", "(_)", pattern).split(" | "))
-    return found
+    headings = re.findall(r"^\.TP\n\.B (\S+)\n", manual, re.M)
+    return {word: found[word] for word in dict.fromkeys(map(plain, headings))}
 
 
 def literal(text: str) -> str:
-    return '"' + text.replace("\\", "\\\\").replace('"', '\\"') + '"'
+    return text.replace("\\", "\\\\").replace('"', '\\"')
 
 
-def matched(name: str, argument: str, kind: str, word: str, about: str, means: str, texts: dict[str, str], rest: str = "") -> str:
-    """A function over the variants of an enum."""
-    arms = ""
-    for known, patterns in variants().items():
-        if mine := [pattern for pattern in patterns if pattern.startswith(f"{kind}::")]:
-            arms += f"        {' | '.join(mine)} => {literal(texts[known])},\n"
-    return f"""/// {about}
-fn {name}({argument}: {kind}) -> &'static str
-    ensures {{ {means} ({word} {argument}) result.now }}
-{{
-    match {argument} {{
-{rest}{arms}    }}
-}}
-"""
+HEAD = """//! The words of findings, the summary of each, and its explanation: the paragraph of ti-findings(7) on it.
+//! docs/explanations.py makes this file.
 
-
-def functions(name: str, about: str, means: str, texts: dict[str, str]) -> list[str]:
-    """A function over all findings, after those on tokens and on effects that it calls."""
-    rest = f"""        Finding::Token(finding) => token_{name}(finding),
-        Finding::Control(effect) => effect_{name}(effect),
-"""
-    return [
-        matched(f"token_{name}", "finding", "TokenFinding", "token_word", f"{about} of what is wrong with a token.", means, texts),
-        matched(f"effect_{name}", "effect", "Effect", "effect_word", f"{about} of a control function with an effect.", means, texts),
-        matched(f"{name}_of", "finding", "Finding", "finding_word", f"{about} of a finding.", means, texts, rest).replace("\nfn ", "\npub fn "),
-    ]
-
-
-HEAD = """//! The summary of each finding, and its explanation: the paragraph of ti-findings(7) on its word. docs/explanations.py makes this file.
-
-ghost use Rattle.ti_lint.specs.FindingWords.{token_word};
-ghost use Rattle.ti_report.specs.Explanations.{IsExplanation, IsSummary};
-ghost use Rattle.ti_report.specs.Findings.{effect_word, finding_word};
-
-use crate::finding::Finding;
-use ti_allow::Effect;
-use ti_lint::TokenFinding;
-
+/// For each word a line with its summary, and indented lines.
+pub const EXPLANATIONS: &str = "\\
 """
 
 
 def made() -> str:
     """The file."""
-    summaries = {word: f"{word}: {first}" for word, (first, text) in paragraphs().items()}
-    explanations = {
-        word: f"{word}\n" + textwrap.fill(text, WIDTH, initial_indent="  ", subsequent_indent="  ", break_on_hyphens=False) + "\n"
-        for word, (first, text) in paragraphs().items()
-    }
-    return HEAD + "\n".join(
-        functions("summary", "The word and the summary", "IsSummary", summaries)
-        + functions("explanation", "The word, and below it the explanation,", "IsExplanation", explanations)
-    )
+    texts = ""
+    for word, (first, text) in paragraphs().items():
+        texts += f"{word}: {first}\n" + textwrap.fill(text, WIDTH, initial_indent="  ", subsequent_indent="  ", break_on_hyphens=False) + "\n"
+    return f'{HEAD}{literal(texts)}";\n'
 
 
 def main() -> None:

@@ -11,6 +11,8 @@ from notation import notation
 MOST_BYTES, MOST_WRITTEN = 1024, 256
 MOST_LINES, MOST_COLUMNS, MOST_COLORS = 200, 264, 256
 ATTRIBUTES = ["smso", "smul", "rev", "blink", "dim", "bold", "invis", "prot", "smacs"]
+# What terminfo(5) calls the parameters of sgr.
+CALLED = ["standout", "underline", "reverse", "blink", "dim", "bold", "invis", "protect", "altcharset"]
 ANSI = re.compile(rb"\x1b\[(?:%i)?(?:%p1%[0-9]*d;%p2%[0-9]*d|%p2%[0-9]*d;%p1%[0-9]*d)[Hf]")
 UNENDED = re.compile(rb"\x1b\[(?![0-?]*[ -/]*[@-~])")
 RENDITION = re.compile(rb"\x1b\[[0-?]*m")
@@ -83,6 +85,16 @@ def is_combination(outputs, number):
     return any(number >> bit & 1 and lacks(none + mine, parameters(outputs[1 << bit])) for bit in range(9))
 
 
+def lost(outputs, number):
+    """The first parameter that an attribute of a set alone adds to those for none, and that is not sent for the set."""
+    others = parameters(outputs[0]) + parameters(outputs[number])
+    for bit, name in enumerate(CALLED):
+        for part in parameters(outputs[1 << bit]) if number >> bit & 1 else []:
+            if part not in others:
+                return f"the {part.decode() or 0} of {name} alone"
+    return None
+
+
 def words(name, value):
     """The words for a value."""
     if name == "sgr":
@@ -123,7 +135,8 @@ def of_attributes(texts, values, outputs):
             yield "sgr-attribute-differs", f" for %p{bit + 1} it sends {sends(output)}, and {name} is {shown(texts[name])}"
     for number, value in enumerate(values):
         if is_combination(outputs, number):
-            yield "sgr-combination", f"{words('sgr', value)} it sends {sends(outputs[number])}, without what one of them sends alone"
+            called = ", ".join(name for name, flag in zip(CALLED, value) if flag)
+            yield "sgr-combination", f"{words('sgr', value)} ({called}) it sends {sends(outputs[number])}, without {lost(outputs, number)}"
             break
 
 

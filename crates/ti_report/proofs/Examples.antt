@@ -2,7 +2,6 @@
 use Rattle.std.proofs.Common.{◌≡◌, ℕ, Bool, [], ◌∷◌, true, false, refl, None, Some, negsuc}
 use Rattle.std.specs.Prelude.{codes}
 use Rattle.std.specs.Fmt.{digits}
-use Rattle.serde_json.specs.Data.{number, unsigned}
 use Rattle.ti_control.specs.Entries.{starts_introducer}
 use Rattle.ti_allow.specs.Plain.{doubled_byte}
 use Rattle.ti_allow.specs.declared.effect.Effect.TheVariants.{Title}
@@ -15,25 +14,21 @@ use Rattle.ti_names.specs.declared.class.Class.TheVariants.{List as ListClass, P
 use Rattle.ti_pad.specs.Delays.{total_delay}
 use Rattle.ti_report.specs.Actions.{is_tabset, natural, on_command, on_file}
 use Rattle.ti_report.specs.Bases.{bases_differ}
-use Rattle.ti_report.specs.Blocks.{caret_line, carets, remedy}
+use Rattle.ti_report.specs.Blocks.{AreBlocks, AreObjects, HaveObjects, IsBlock, IsObject, subject}
 use Rattle.ti_report.specs.Constants.{IsTestsReport}
 use Rattle.ti_report.specs.Controls.{has_introducer, titled}
 use Rattle.ti_report.specs.Crashes.{range_in}
-use Rattle.ti_report.specs.Coverages.{AreCounts, IsCount}
-use Rattle.ti_report.specs.Explanations.{IsExplanation, IsSummary, explained, finding_called}
-use Rattle.ti_report.specs.Findings.{finding_row, finding_word}
+use Rattle.ti_report.specs.Findings.{finding_word, hidden_by, is_only_all}
 use Rattle.ti_report.specs.Keys.{Key, is_first_part, on_keys, on_two}
 use Rattle.ti_report.specs.Lines.{AreAll, InTurn}
 use Rattle.ti_report.specs.Marks.{first_place}
 use Rattle.ti_report.specs.NameBytes.{first_empty, parted}
 use Rattle.ti_report.specs.Names.{on_again, on_name, on_new}
-use Rattle.ti_report.specs.Objects.{about_objects, place_number}
 use Rattle.ti_report.specs.Origins.{Motion, origin_remarks}
 use Rattle.ti_report.specs.Pairs.{equal_pair}
 use Rattle.ti_report.specs.Remarks.{Attribute, For, Last, NoEvidence, OfEntry, OfText, OfTwo, Remark, on_values, placed, unmarked, unplaced}
 use Rattle.ti_report.specs.Reported.{reported}
 use Rattle.ti_report.specs.Reports.{IsUseReport}
-use Rattle.ti_report.specs.Sentences.{function_words, meaning, parameter_words, value_words}
 use Rattle.ti_report.specs.Sequences.{IsSequenceIn}
 use Rattle.ti_report.specs.Subjects.{known_as}
 use Rattle.ti_report.specs.Texts.{delay_remarks, empty_key, half_paired, may_leave_out, usage_of}
@@ -72,10 +67,6 @@ pub reports : (reported Errors (on (Token ParameterRange) ∷ on SameOutput ∷ 
     × (reported All (on AlikeKeys ∷ on SameOutput ∷ []) ≡ on AlikeKeys ∷ on SameOutput ∷ [])
 reports = (refl, refl)
 
--- what to do about a second `%i`, as in `csr` of vt100-s, and about a command
-pub remedies : (remedy (Token RepeatedIncrement) ≡ codes "do: leave out the second %i, and write %{1}%+ after a %p that should be greater by 1") × (remedy Runs ≡ codes "do: leave it out")
-remedies = (refl, refl)
-
 -- what programs do with `iprog`, `if` and `rf`, and a number below 0
 pub actions : (on_command (codes "iprog") AbsentText ≡ []) × (on_command (codes "iprog") (TextOf (codes "tset")) ≡ on_values (codes "iprog") (codes "tset") Runs NoEvidence)
     × (on_file (codes "if") (TextOf (codes "/usr/share/tabset/vt100")) ≡ []) × (on_file (codes "rf") (TextOf (codes "/dev/zero")) ≡ on_values (codes "rf") (codes "/dev/zero") Reads NoEvidence)
@@ -98,26 +89,21 @@ pub bells : (text_named named (codes "bel") ≡ AbsentText) × (text_named with_
 unfolding text_named has all_flags all_numbers all_texts
 bells = (refl, refl, refl, refl, refl)
 
--- ---- remarks: the places of a text, the words of a finding, and sentences of ti-findings(7)
-
-pub carets_below : (carets 0 (codes "a%p1b") (1 ∷ 4 ∷ []) ≡ codes " ^  ^") × (caret_line Never (codes "ab") [] ≡ [])
-carets_below = (refl, refl)
+-- ---- remarks: the places of a text, the words of a finding, and the block and the object of a remark
 
 pub places : (first_place starts_introducer (codes "ab") ≡ None) × (first_place starts_introducer (97 ∷ 27 ∷ codes "[m") ≡ Some 1)
     × (placed [] SameOutput NoEvidence ≡ [])
 places = (refl, refl, refl)
 
-pub words : (finding_word SameOutput ≡ codes "same-output") × ((finding_row AlikeKeys).only_all ≡ true) × ((finding_row SameOutput).hidden_by ≡ codes "parameter-range")
+pub words : (finding_word SameOutput ≡ codes "same-output") × (is_only_all AlikeKeys ≡ true) × (hidden_by SameOutput ≡ codes "parameter-range")
 words = (refl, refl, refl)
 
-pub sentences : (meaning (Token ParameterRange) (Last 2) ≡ codes "%p2 is the last parameter by terminfo(5)") × (meaning EmptyOutput (For (Two 3 5)) ≡ codes "for 3 5 it sends nothing")
-    × (value_words (Attributes 0) ≡ codes "for no attribute") × (value_words (Attributes 5) ≡ codes "for %p1 %p3")
-    × (function_words (codes "CSI 6n") ≡ codes "CSI 6n: the terminal ") × (function_words (5 ∷ []) ≡ codes "^E: the terminal ")
-unfolding parameter_words digits
-sentences = (refl, refl, refl, refl, refl, refl)
+pub blocks : (subject OfEntry ≡ codes "entry") × IsBlock (codes "f: ") (on Runs) (codes "f: mrcup\n  -\n  runs: x\n")
+    × AreBlocks [] (on Runs ∷ []) (codes "mrcup\nruns") × AreBlocks [] [] []
+blocks = (refl, (codes "  -\n  ", codes ": x\n", refl), (codes "mrcup\nruns", [], ([], [], refl), refl, refl), refl)
 
-pub objects : (about_objects OfEntry ≡ []) × (place_number 3 ≡ number (unsigned 3))
-objects = (refl, refl)
+pub objects : IsObject (on Runs) (codes ",{\"finding\":\"runs\",\"fix\":\"x\"}") × AreObjects [] [] × HaveObjects [] (codes "[]")
+objects = ((codes ",", codes ",\"fix\":\"x\"}", refl), refl, (codes "[", [], codes "]", refl, refl))
 
 -- ---- keys: `kcuu1` sends the first part of what `kf1` sends
 
@@ -146,12 +132,6 @@ pub delays : (delay_remarks (codes "a$<5000/>") ≡ placed (1 ∷ []) LongDelay 
 unfolding total_delay
 delays = (refl, refl)
 
--- the first finding of a word, a word that none has, and texts that start with their word
-pub explanations : (finding_called (codes "title") ≡ Some (Control Title)) × (finding_called (codes "titel") ≡ None)
-    × IsSummary (codes "size") (codes "size: too large") × IsExplanation (codes "size") (codes "size\n  It is too large.\n")
-unfolding explained
-explanations = (refl, refl, (refl, refl), (refl, refl))
-
 -- a text that is known and there
 pub subjects : (known_as (ExtendedSubject kinds.Text (codes "XM")) None (Some (codes "x")) ≡ [])
     × (known_as (ExtendedSubject kinds.Text (codes "XM")) (Some Plain) (Some (codes "x")) ≡ record { name = codes "XM"; text = codes "x"; class = Plain; standard = false } ∷ [])
@@ -179,7 +159,7 @@ pub uses_reported : IsUseReport (usage_of (record { mask = 0 }) (codes "acsc") L
     (on_values (codes "acsc") (codes "abc") HalfPaired NoEvidence)
 uses_reported = (unplaced HalfPaired NoEvidence, refl, refl)
 
--- ---- values: of an attribute that `sgr` ignores; and how many texts are tried
+-- ---- values: of an attribute that `sgr` ignores
 
 abbrev trial : Trial
 trial = record { name = codes "sgr"; text = codes "x"; tried = Attributes 0 ∷ Attributes 32 ∷ []; sent = codes "x" ∷ codes "x" ∷ [] }
@@ -187,10 +167,6 @@ trial = record { name = codes "sgr"; text = codes "x"; tried = Attributes 0 ∷ 
 pub tried : (tried_at trial 1 ≡ Attributes 32) × (ignored_if true trial (codes "bold") 32 ≡ on_values (codes "sgr") (codes "x") IgnoredAttribute (Attribute (codes "bold") 32))
     × (remark_of trial EmptyOutput (λ k. For (tried_at trial k)) None ≡ [])
 tried = (refl, refl, refl)
-
-pub counts : IsCount AbsentText (Numbers 0 8) 0 × AreCounts named ((codes "setaf", Numbers 0 8) ∷ []) 0 0
-unfolding text_named all_flags all_numbers all_texts
-counts = (refl, (0, 0, 0, refl, (refl, refl), refl, refl))
 
 -- `cup` beside `vpa` of ncr160vt200pp, and beside `home` of linux
 abbrev cup : Motion

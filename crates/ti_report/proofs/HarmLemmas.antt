@@ -3,7 +3,7 @@ use Rattle.std.proofs.Common.{◌≡◌, ◌∙◌, ◌&&◌, ◌||◌, Bool, tr
 use Rattle.std.specs.Prelude.{◌==◌}
 use Rattle.ti_lint.specs.declared.level.Level.{Level}
 use Rattle.ti_lint.specs.declared.level.Level.TheVariants as levels
-use Rattle.ti_report.specs.Findings.{finding_row, is_harm}
+use Rattle.ti_report.specs.Findings.{hidden_by, is_harm, is_only_all}
 use Rattle.ti_report.specs.Remarks.{Remark}
 use Rattle.ti_report.specs.Reported.{HarmIsReported, Head, head, is_all, is_hidden_by, is_reported}
 use Rattle.ti_report.specs.declared.finding.Finding.{Finding}
@@ -20,8 +20,8 @@ kept passes harms implies (x ∷ xs) = by (passes x) refl (harms x) refl (kept p
     by false e true f rest = absurd (true≢false (sym (implies x f) ∙ e))
     by false e false f rest = rest
 
--- a row of harm is in each report, and names no finding that hides it
-unhidden : (finding : Finding) → is_harm finding ≡ true → ((finding_row finding).only_all ≡ false) × ((length (finding_row finding).hidden_by == 0) ≡ true)
+-- a finding of harm is in each report, and names no other one that hides it
+unhidden : (finding : Finding) → is_harm finding ≡ true → (is_only_all finding ≡ false) × ((length (hidden_by finding) == 0) ≡ true)
 unhidden Runs harm = (refl, refl)
 unhidden Reads harm = (refl, refl)
 unhidden Size harm = (refl, refl)

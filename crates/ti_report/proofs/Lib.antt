@@ -6,13 +6,11 @@ pub mod PlacesLemmas
 pub mod ReportedLemmas
 pub mod HarmLemmas
 pub mod FirstPlaceLemmas
-pub mod CoveragesLemmas
 pub mod NameBytesLemmas
 pub mod PartedLemmas
 pub mod Examples
 pub mod ReportsLemmas
 pub mod StoredLemmas
-pub mod ParametersLemmas
 pub mod TurnsLemmas
 pub mod PlacesOfLemmas
 pub mod RepeatedLemmas
@@ -20,8 +18,6 @@ pub mod KeysLemmas
 pub mod LayoutLemmas
 pub mod BaseLemmas
 pub mod NeighboursLemmas
-pub mod PlainLemmas
-pub mod CalledLemmas
 pub mod TrialsLemmas
 pub mod UsageLemmas
 pub mod OneKeysLemmas
@@ -29,3 +25,4 @@ pub mod OnePlacesLemmas
 pub mod OneReportLemmas
 pub mod PopsAlwaysLemmas
 pub mod FittingLemmas
+pub mod BlocksLemmas

@@ -61,6 +61,18 @@ all_next L all left rest x before out new is g (line, told, n) = record {
       (lines, are, ap (λ l. l ++ more) n ∙ append_assoc out line more ∙ e);
 }
 
+-- the next of a slice
+pub all_more : {X Y : Type 0} (L : X → List Y → Type 0) (items : List X) (i : ℕ) (x : X) (before out new : List Y) → i < length items → x ≡ get_or items i x
+    → GoesOnWith L items (drop i items) before out → Adds (L x) out new → GoesOnWith L items (drop (i + 1) items) before new
+all_more L items i x before out new within is g told =
+    all_next L items (drop i items) (drop (i + 1) items) x before out new (drop-cons items i x within ∙ ap₂ (λ y k. y ∷ drop k items) (sym is) (sym (add-one i))) g told
+
+pub all_done : {X Y : Type 0} (L : X → List Y → Type 0) (items : List X) (i : ℕ) (before out : List Y) → length items ≤ i
+    → GoesOnWith L items (drop i items) before out → Adds (AreAll L items) before out
+all_done L items i before out h g =
+    let (lines, are, e) = g.goes [] (subst (λ l. AreAll L l []) (sym (drop_all i items h)) refl) in
+    (lines, are, sym (append-nil out) ∙ e)
+
 -- the next item, by what it holds
 pub one_more : {X Z : Type 0} (hold : Z → X) (items : List Z) (i : ℕ) (d : Z) → i < length items → drop i (map hold items) ≡ hold (get_or items i d) ∷ drop (i + 1) (map hold items)
 one_more hold items i d within =

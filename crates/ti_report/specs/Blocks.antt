@@ -1,76 +1,56 @@
--- The lines of a remark: what it is about, carets below the places, the sentence, and what to do.
-use Rattle.std.specs.Prelude.{ℕ, ◌+◌, ◌-◌, List, [], ◌∷◌, ◌++◌, codes, replicate}
-use Rattle.std.specs.List.{flat_map}
-use Rattle.ti_base.specs.Letters.{letter}
-use Rattle.ti_escape.specs.Colors.{closing, opening}
-use Rattle.ti_escape.specs.declared.color.Color.{Color}
-use Rattle.ti_escape.specs.declared.color.Style.{Style}
-use Rattle.ti_escape.specs.declared.color.Style.TheVariants as styles
-use Rattle.ti_escape.specs.Forms.{shown}
-use Rattle.ti_escape.specs.declared.form.Form.TheVariants as forms
-use Rattle.ti_escape.specs.Notation.{column, label_notation}
-use Rattle.ti_report.specs.Remarks.{About, Evidence, OfEntry, OfName, OfText, OfTwo, Remark}
-use Rattle.ti_report.specs.Findings.{finding_remedy, finding_word}
-use Rattle.ti_report.specs.Sentences.{meaning}
-use Rattle.ti_report.specs.declared.finding.Finding.{Finding}
+-- What is told of a list of remarks: lines, with a block for each, and JSON, with an object for each. What these say beside the subject
+-- and the word is shown by rows.
+use Rattle.std.specs.Prelude.{◌≡◌, ℕ, false, List, ◌++◌, codes}
+use Rattle.ti_escape.specs.Notation.{label_notation}
+use Rattle.ti_sink.specs.Pages.{Paged, as_page}
+use Rattle.ti_sink.specs.Printed.{Printed, first_member}
+use Rattle.ti_report.specs.Findings.{finding_word}
+use Rattle.ti_report.specs.Lines.{Adds, AreAll}
+use Rattle.ti_report.specs.Remarks.{About, OfEntry, OfName, OfText, OfTwo, Remark}
 
--- ---- the sentence
+-- ---- lines
 
--- a part in a style
-abbrev pub painted : Color → Style → List ℕ → List ℕ
-painted color style part = opening color style ++ (part ++ closing color)
+-- what a remark is about, by its name
+abbrev pub subject : About → List ℕ
+subject OfEntry = codes "entry"
+subject (OfName name) = label_notation name
+subject (OfText name text) = label_notation name
+subject (OfTwo name text other its) = label_notation name
 
-abbrev pub sentence : Color → Finding → Evidence → List ℕ
-sentence color finding evidence =
-    painted color styles.Red (finding_word finding) ++ (codes ": " ++ meaning finding evidence)
+-- the block of a remark: its subject in a line, after what stands before it; its word; and whatever stands below the subject and after
+-- the word
+abbrev pub IsBlock : List ℕ → Remark → List ℕ → Type 0
+IsBlock prefix r block =
+    (below : List ℕ) × (rest : List ℕ)
+    × (block ≡ as_page prefix ++ (subject r.about ++ (codes "\n" ++ (below ++ (as_page (finding_word r.finding) ++ rest)))))
 
-abbrev pub remedy : Finding → List ℕ
-remedy finding = codes "do: " ++ finding_remedy finding
+-- one for each remark, in order
+abbrev pub AreBlocks : List ℕ → List Remark → List ℕ → Type 0
+AreBlocks prefix remarks lines = AreAll (IsBlock prefix) remarks lines
 
--- ---- what it is about
+-- unless memory was refused, lines of a kind come after what was there
+pub record WritesSome (Are : List ℕ → Type 0) (old new : Paged) : Type 0 where
+  pub kept : new.is_refused ≡ false → old.is_refused ≡ false
+  pub added : new.is_refused ≡ false → Adds Are old.bytes new.bytes
 
--- a line below another
-abbrev pub indented : List ℕ → List ℕ
-indented line = codes "  " ++ (line ++ codes "\n")
+-- ---- JSON
 
--- what a text is called, after what stands before that, and the text in the notation
-abbrev pub head : List ℕ → List ℕ → List ℕ → List ℕ
-head prefix name text =
-    prefix ++ (label_notation name ++ (codes "\n" ++ indented (shown forms.Notation text)))
+-- the object of a remark: its word is the first member; a comma may stand before it
+abbrev pub IsObject : Remark → List ℕ → Type 0
+IsObject r object =
+    (comma : List ℕ) × (more : List ℕ) × (object ≡ comma ++ (first_member (codes "finding") (finding_word r.finding) ++ more))
 
-abbrev pub about_lines : List ℕ → About → List ℕ
-about_lines prefix OfEntry = prefix ++ codes "entry\n"
-about_lines prefix (OfName name) = prefix ++ (label_notation name ++ codes "\n")
-about_lines prefix (OfText name text) = head prefix name text
-about_lines prefix (OfTwo name text other its) = head prefix name text ++ head [] other its
+-- one for each remark, in order
+abbrev pub AreObjects : List Remark → List ℕ → Type 0
+AreObjects remarks text = AreAll IsObject remarks text
 
--- ---- carets
+-- these stand in a text
+abbrev pub HaveObjects : List Remark → List ℕ → Type 0
+HaveObjects remarks text =
+    (start : List ℕ) × (objects : List ℕ) × (end : List ℕ) × AreObjects remarks objects × (text ≡ start ++ (objects ++ end))
 
--- from a column on, a caret below the notation of each byte at one of the places
-abbrev pub carets : ℕ → List ℕ → List ℕ → List ℕ
-carets from text [] = []
-carets from text (place ∷ places) =
-    replicate (column text place - from) (letter (codes " "))
-    ++ letter (codes "^") ∷ carets (column text place + 1) text places
-
--- the text that has the places
-abbrev pub text_of : About → List ℕ
-text_of (OfText name text) = text
-text_of about = []
-
--- no line without a place
-abbrev pub caret_line : Color → List ℕ → List ℕ → List ℕ
-caret_line color text [] = []
-caret_line color text (place ∷ places) = indented (painted color styles.Green (carets 0 text (place ∷ places)))
-
--- ---- remarks
-
-abbrev pub remark_lines : Color → List ℕ → Remark → List ℕ
-remark_lines color prefix r =
-    about_lines prefix r.about
-    ++ (caret_line color (text_of r.about) r.places
-    ++ (indented (sentence color r.finding r.evidence) ++ indented (remedy r.finding)))
-
--- something stands before the first line of each
-abbrev pub report_lines : Color → List ℕ → List Remark → List ℕ
-report_lines color prefix remarks = flat_map (remark_lines color prefix) remarks
+-- unless memory was refused or a call did not fit, text of a kind comes after what was there
+pub record PrintsSome (Are : List ℕ → Type 0) (old new : Printed) : Type 0 where
+  pub fits : new.is_misused ≡ false → old.is_misused ≡ false
+  pub kept : new.is_refused ≡ false → old.is_refused ≡ false
+  pub added : new.is_refused ≡ false → new.is_misused ≡ false → Adds Are old.bytes new.bytes

@@ -1,9 +1,6 @@
 pub mod Remarks
-pub mod Sentences
 pub mod Findings
-pub mod Explanations
 pub mod Blocks
-pub mod Objects
 pub mod Origins
 pub mod Marks
 pub mod Lines
@@ -23,7 +20,6 @@ pub mod Bases
 pub mod Whole
 pub mod Values
 pub mod Trials
-pub mod Coverages
 pub mod Splits
 pub mod Sequences
 pub mod Actions

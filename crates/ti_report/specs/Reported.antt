@@ -4,7 +4,7 @@ use Rattle.std.specs.List.{filter, list_any}
 use Rattle.std.specs.Str.{bytes_eq}
 use Rattle.ti_lint.specs.declared.level.Level.{Level}
 use Rattle.ti_lint.specs.declared.level.Level.TheVariants as levels
-use Rattle.ti_report.specs.Findings.{finding_row, finding_word, is_harm}
+use Rattle.ti_report.specs.Findings.{finding_word, hidden_by, is_harm, is_only_all}
 use Rattle.ti_report.specs.Remarks.{About, OfText, Remark}
 
 -- what a remark is about, and its word
@@ -20,16 +20,16 @@ abbrev pub is_same_text : About → About → Bool
 is_same_text (OfText name text) (OfText other its) = bytes_eq name other && bytes_eq text its
 is_same_text one other = false
 
--- a remark is hidden by one on the same text whose word its row names
+-- a remark is hidden by one on the same text whose word its finding names
 abbrev pub hides : Remark → Head → Bool
-hides r h = bytes_eq h.word (finding_row r.finding).hidden_by && is_same_text h.about r.about
+hides r h = bytes_eq h.word (hidden_by r.finding) && is_same_text h.about r.about
 
 abbrev pub is_hidden_by : List Head → Remark → Bool
 is_hidden_by heads r = list_any (hides r) heads
 
--- most rows name none
+-- most findings name none
 abbrev pub is_hidden : List Head → Remark → Bool
-is_hidden heads r = not (length (finding_row r.finding).hidden_by == 0) && is_hidden_by heads r
+is_hidden heads r = not (length (hidden_by r.finding) == 0) && is_hidden_by heads r
 
 -- some findings only a report on all has
 abbrev pub is_all : Level → Bool
@@ -37,7 +37,7 @@ is_all levels.Errors = false
 is_all levels.All = true
 
 abbrev pub is_reported : Level → List Head → Remark → Bool
-is_reported level heads r = (is_all level || not (finding_row r.finding).only_all) && not (is_hidden heads r)
+is_reported level heads r = (is_all level || not (is_only_all r.finding)) && not (is_hidden heads r)
 
 abbrev pub reported : Level → List Remark → List Remark
 reported level found = filter (is_reported level (map head found)) found

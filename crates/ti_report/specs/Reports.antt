@@ -1,5 +1,5 @@
 -- What is wrong with an entry.
-use Rattle.std.specs.Prelude.{◌≡◌, ◌⊎◌, ℕ, ◌↔◌, ◌==◌, Bool, true, List, [], ◌∷◌, ◌++◌, length, map}
+use Rattle.std.specs.Prelude.{◌≡◌, ◌⊎◌, ℕ, ◌↔◌, true, List, [], ◌∷◌, ◌++◌, length, map}
 use Rattle.std.specs.List.{AllByRecursion}
 use Rattle.ti_cap.specs.Refusal.{IsFaultless}
 use Rattle.ti_words.specs.Value.{EntryValue}
@@ -9,10 +9,9 @@ use Rattle.ti_lint.specs.declared.variables.Variables.{Variables}
 use Rattle.ti_lint.specs.Variables.{HasOnlyLetters, HasVariable, IsStored}
 use Rattle.ti_lint.specs.declared.lint_options.LintOptions.{LintOptions}
 use Rattle.ti_escape.specs.declared.color.Color.{Color}
-use Rattle.serde_json.specs.Data.{Data}
-use Rattle.ti_json.specs.Objects.{array_text}
+use Rattle.ti_sink.specs.Pages.{is_page}
 use Rattle.ti_report.specs.Actions.{action_remarks}
-use Rattle.ti_report.specs.Blocks.{report_lines}
+use Rattle.ti_report.specs.Blocks.{AreBlocks}
 use Rattle.ti_report.specs.Controls.{AreControlRemarks, HasNoControl, KeepsToTable, all_looks}
 use Rattle.ti_report.specs.Crashes.{AreDivisionRemarks}
 use Rattle.ti_report.specs.Keys.{AreKeyRemarks}
@@ -20,7 +19,6 @@ use Rattle.ti_report.specs.Lines.{AreAll, InTurn}
 use Rattle.ti_report.specs.Subjects.{KnownText, known_texts}
 use Rattle.ti_report.specs.NameBytes.{AreNameByteRemarks}
 use Rattle.ti_report.specs.Names.{AreNameRemarks}
-use Rattle.ti_report.specs.Objects.{remark_object}
 use Rattle.ti_report.specs.Origins.{AreOriginRemarks}
 use Rattle.ti_report.specs.Pairs.{all_pair_remarks}
 use Rattle.ti_report.specs.Remarks.{Remark, TextRemark, with_name}
@@ -100,23 +98,11 @@ abbrev pub OnlyTable : Type 0
 OnlyTable = (options : LintOptions) (bytes : List ℕ) (v : EntryValue) (remarks : List Remark) → options.untrusted ≡ true
     → IsReport options bytes v remarks → HasNoControl remarks → AllByRecursion KeepsToTable (all_looks v)
 
--- the lines of all remarks, with something before the first line of each
+-- the lines of all remarks, with something before the first line of each: a page with a block for each
 abbrev pub AreLines : LintOptions → Color → List ℕ → List ℕ → EntryValue → List ℕ → Type 0
 AreLines options color before bytes v lines =
-    (remarks : List Remark) × IsReport options bytes v remarks × (lines ≡ report_lines color before remarks)
+    (remarks : List Remark) × IsReport options bytes v remarks × AreBlocks before remarks lines × (is_page color lines ≡ true)
 
 -- how many remarks there are
 abbrev pub IsFindingCount : LintOptions → List ℕ → EntryValue → ℕ → Type 0
 IsFindingCount options bytes v count = (remarks : List Remark) × IsReport options bytes v remarks × (count ≡ length remarks)
-
--- the objects of all remarks, and whether there is none
-pub record AreFindings (options : LintOptions) (bytes : List ℕ) (v : EntryValue) (sound : Bool) (objects : List Data) : Type 0 where
-  pub remarks : List Remark
-  pub report : IsReport options bytes v remarks
-  pub sound_is : sound ≡ (length remarks == 0)
-  pub objects_are : objects ≡ map remark_object remarks
-
--- the array of these
-abbrev pub IsReportJson : LintOptions → List ℕ → EntryValue → List ℕ → Bool → Type 0
-IsReportJson options bytes v text sound =
-    (objects : List Data) × AreFindings options bytes v sound objects × (text ≡ array_text objects)

@@ -1,4 +1,4 @@
-//! The findings on an entry: remarks, of which lines and JSON are two forms.
+//! The findings on an entry: remarks.
 
 use crate::finding::Finding;
 use std::alloc::{AllocError, Allocator};

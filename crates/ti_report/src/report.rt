@@ -1,8 +1,10 @@
 //! The report on an entry.
 
 ghost use Rattle.std.specs.Prelude.{◌≡◌, ◌∷◌, [], IfOk, OnOk, length, take};
+ghost use Rattle.ti_allow.specs.Harmless.{IsSilent};
+ghost use Rattle.ti_report.specs.Controls.{Keeps};
 ghost use Rattle.ti_report.specs.Lines.{Adds};
-ghost use Rattle.ti_report.specs.Reports.{AreRemarks, AreLines, AreTextRemarks, IsFindingCount, IsReport, IsUseReport};
+ghost use Rattle.ti_report.specs.Reports.{AreRemarks, AreTextRemarks, IsFindingCount, IsReport, IsUseReport};
 ghost use Rattle.ti_report.specs.Reported.{reported as the_reported};
 ghost use Rattle.ti_report.specs.Subjects.{known_texts};
 ghost use Rattle.ti_report.specs.inner.Growing.{Gains, GainsThese};
@@ -10,14 +12,15 @@ ghost use Rattle.ti_report.specs.Names.{on_name};
 ghost use Rattle.ti_report.specs.Remarks.{NoEvidence, OfTwo, on_values, unmarked};
 ghost use Rattle.ti_report.specs.Values.{is_ansi_entry as the_is_ansi};
 ghost use Rattle.ti_report.specs.Whole.{found_if};
-ghost use Rattle.ti_report.specs.inner.Held.{about_held, evidence_held, texts_held};
+ghost use Rattle.ti_report.specs.inner.Held.{about_held, evidence_held, sending_held, texts_held};
 
 use crate::finding::Finding;
+use crate::harmless::Harmless;
 use crate::judgements::Judgements;
-use crate::lines::push_lines;
 use crate::lookup::is_ansi_entry;
 use crate::remark::{About, Evidence, NamedText, Remark};
 use crate::reported::reported;
+use crate::sending::Sending;
 use crate::stored::stored_by_texts;
 use crate::subject::{KnownText, known_texts};
 use crate::texts::judge;
@@ -25,8 +28,8 @@ use crate::trials::Trials;
 use crate::usage::Usage;
 use std::alloc::{AllocError, Allocator};
 use std::marker::Model;
+use ti_allow::Found;
 use ti_entry::Entry;
-use ti_escape::Color;
 use ti_lint::LintOptions;
 
 /// The findings on an entry: remarks, in order. Each rule adds its own.
@@ -38,6 +41,7 @@ pub struct Report<'r, 'a, A: Allocator> {
     texts: &'r [KnownText<'a>],
     options: LintOptions,
     remarks: Vec<Remark<'a, A>, A>,
+    harmless: Harmless<A>,
 }
 
 impl<'r, 'a, A: Allocator> Model for Report<'r, 'a, A> {
@@ -79,6 +83,7 @@ impl<'r, 'a, A: Allocator + Copy> Report<'r, 'a, A> {
             texts,
             options,
             remarks: Vec::new(alloc),
+            harmless: Harmless::new(alloc),
         }
     }
 
@@ -157,6 +162,25 @@ impl<'r, 'a, A: Allocator + Copy> Report<'r, 'a, A> {
         ensures { result ≡ length self.now.remarks }
     {
         self.remarks.len()
+    }
+
+    /// Exchanges the strings in which nothing was found for those of the trials.
+    fn exchange(&mut self, trials: &mut Trials<A>)
+        ensures { self.new ≡ self.old }
+    {
+        trials.exchange(&mut self.harmless);
+    }
+
+    /// What a string can do beside what the table has for its name.
+    pub fn found_in(
+        &mut self,
+        name: &[u8],
+        sending: Sending<'_>,
+    ) -> Result<Vec<Found, A>, AllocError>
+        ensures kept { self.new ≡ self.old }
+        ensures keeps { IfOk result (λ found. IsSilent found.items → Keeps name.now (sending_held sending.entry)) }
+    {
+        self.harmless.found_in(self.alloc, name, sending)
     }
 
     /// The remarks that are reported.
@@ -291,66 +315,32 @@ impl<'r, 'a, A: Allocator + Copy> Report<'r, 'a, A> {
     }
 }
 
-/// The remarks on an entry that was read from the bytes.
-pub fn report_of<'a, A: Allocator + Copy>(
+/// Returns the remarks on what is wrong with an entry that was read from the bytes, and, if all is reported, on what many have on
+/// purpose, in order. A sound entry has none. Texts that were tried for earlier entries with the same trials are not tried again.
+///
+/// # Errors
+///
+/// Memory was refused.
+pub fn remarks_of<'a, A: Allocator + Copy>(
     alloc: A,
     trials: &mut Trials<A>,
     options: LintOptions,
     bytes: &[u8],
     entry: &Entry<'a>,
 ) -> Result<Vec<Remark<'a, A>, A>, AllocError>
-    ensures { IfOk result (λ remarks. IsReport options bytes.now entry.now remarks.items) }
+    ensures remarks { IfOk result (λ remarks. IsReport options bytes.now entry.now remarks.items) }
 {
     let texts = known_texts(alloc, entry)?;
     let mut report = Report::new(alloc, bytes, entry, texts.as_slice(), options);
     report.push_all(trials)?;
+    report.exchange(trials);
     report.push_controls()?;
+    report.exchange(trials);
     let remarks = report.into_reported()?;
     Ok(remarks)
 }
 
-/// Appends the lines on what is wrong with an entry that was read from the bytes, and, if all is reported, on what many have on
-/// purpose. A sound entry has none. `prefix` stands before the first line of each finding, such as the name of the file. With
-/// color, the word of a finding is red, and carets are green. Texts that were tried for earlier entries with the same trials
-/// are not tried again.
-///
-/// # Errors
-///
-/// Memory was refused.
-///
-/// # Examples
-///
-/// ```rust
-/// let entry = read(FILE)?;
-/// let mut lines = Vec::new(rt.alloc());
-/// let alloc = rt.alloc();
-/// let trials = &mut Trials::new(alloc);
-/// let options = LintOptions {
-///     level: Level::Errors,
-///     untrusted: false,
-/// };
-/// let color = Color::Never;
-/// push_report(alloc, &mut lines, trials, options, color, b"", FILE, &entry)?;
-/// ```
-pub fn push_report<A: Allocator + Copy>(
-    alloc: A,
-    out: &mut Vec<u8, A>,
-    trials: &mut Trials<A>,
-    options: LintOptions,
-    color: Color,
-    prefix: &[u8],
-    bytes: &[u8],
-    entry: &Entry<'_>,
-) -> Result<(), AllocError>
-    ensures lines { OnOk result (Adds (AreLines options color prefix.now bytes.now entry.now)
-        out.old.items out.new.items) }
-{
-    let remarks = report_of(alloc, trials, options, bytes, entry)?;
-    push_lines(out, color, prefix, remarks.as_slice())?;
-    Ok(())
-}
-
-/// How many findings [`push_report`] appends lines of.
+/// How many remarks [`remarks_of`] returns.
 ///
 /// # Errors
 ///
@@ -364,6 +354,6 @@ pub fn count_findings<A: Allocator + Copy>(
 ) -> Result<usize, AllocError>
     ensures { IfOk result (IsFindingCount options bytes.now entry.now) }
 {
-    let remarks = report_of(alloc, trials, options, bytes, entry)?;
+    let remarks = remarks_of(alloc, trials, options, bytes, entry)?;
     Ok(remarks.len())
 }

@@ -1,13 +1,11 @@
--- A row of the table, what a remark is about, its evidence, what is known before a token, and the texts of an entry, as the code holds them.
-use Rattle.std.specs.Prelude.{List, map}
+-- What a remark is about, its evidence, what is known before a token, and the texts of an entry, as the code holds them.
+use Rattle.std.specs.Prelude.{ℕ, Bool, true, false, List, map}
 use Rattle.ti_report.specs.Remarks as spec
 use Rattle.ti_report.specs.declared.remark.About.{About}
 use Rattle.ti_report.specs.declared.remark.About.TheVariants as abouts
 use Rattle.ti_report.specs.declared.remark.Evidence.{Evidence}
 use Rattle.ti_report.specs.declared.remark.NamedText.{NamedText}
 use Rattle.ti_report.specs.declared.remark.Evidence.TheVariants as evidences
-use Rattle.ti_report.specs.declared.finding.Row.{Row}
-use Rattle.ti_report.specs.Findings as findings
 use Rattle.ti_report.specs.declared.reported.Head.{Head}
 use Rattle.ti_report.specs.Reported as reports
 use Rattle.ti_report.specs.Controls as controls
@@ -52,10 +50,6 @@ evidence_held (evidences.Count count) = spec.Count count
 abbrev pub before_held : {A : Type 0} → Before A → crashes.Before
 before_held b = record { numbers = b.numbers.items; parameter = b.parameter }
 
-abbrev pub row_held : Row → findings.Row
-row_held r =
-    record { word = r.word.now; sentence = r.sentence.now; remedy = r.remedy.now; only_all = r.only_all; hidden_by = r.hidden_by.now }
-
 abbrev pub trial_held : {A : Type 0} → Trial A → values.Trial
 trial_held t =
     record { name = t.subject.name.now; text = t.subject.text.now; tried = t.tried.now; sent = texts_of t.sent.now }
@@ -66,6 +60,11 @@ motion_held m = record { name = m.subject.name.now; text = m.subject.text.now; s
 abbrev pub sending_held : Sending → controls.Sending
 sending_held (sendings.Expanded text) = controls.Expanded text.now
 sending_held (sendings.AsItStands text) = controls.AsItStands text.now
+
+-- a string that is given parameters, or is sent as it stands
+abbrev pub sending_as : Bool → List ℕ → controls.Sending
+sending_as true text = controls.Expanded text
+sending_as false text = controls.AsItStands text
 
 abbrev pub text_held : KnownText → subjects.KnownText
 text_held t =

@@ -6,7 +6,7 @@ use ti_draft::{Draft, encode};
 use ti_entry::read;
 use ti_fixtures::{Said, Unfound, bytes_of, item_of};
 use ti_names::NameTable;
-use ti_report::{Color, Level, LintOptions, Trials, push_report};
+use ti_report::{Color, Level, LintOptions, Trials, remarks_of, report_lines};
 use ti_words::{Flag, Kind, Number, Text, Width};
 
 /// Returns the value of a capability of terminfo(5) in the items.
@@ -140,16 +140,9 @@ pub fn add_report(
 ) -> Result<(), Unfound> {
     let alloc = *lines.allocator();
     let entry = read(file)?;
-    Ok(push_report(
-        alloc,
-        lines,
-        trials,
-        look.options,
-        look.color,
-        look.prefix,
-        file,
-        &entry,
-    )?)
+    let remarks = remarks_of(alloc, trials, look.options, file, &entry)?;
+    let blocks = report_lines(alloc, look.color, look.prefix, remarks.as_slice())?;
+    Ok(lines.extend_from_slice(blocks.as_slice())?)
 }
 
 /// The lines on an entry that was not tried before.

@@ -2,7 +2,7 @@
 
 use std::test::Fail;
 use ti_entry::read;
-use ti_report::{Color, Level, LintOptions, Trials, push_report, report_json};
+use ti_report::{Color, Level, LintOptions, Trials, remarks_of, report_json, report_lines};
 
 /// An entry called `t` with `cup` as termcap writes `cm`.
 const FILE: &[u8] = b"\x1a\x01\x02\0\0\0\0\0\x0b\0\x09\0t\0\
@@ -11,15 +11,14 @@ const FILE: &[u8] = b"\x1a\x01\x02\0\0\0\0\0\x0b\0\x09\0t\0\
 #[test]
 fn an_entry_of_termcap(rt: HostRuntime) -> Result<(), Fail> {
     let entry = read(FILE)?;
-    let mut lines = Vec::new(rt.alloc());
     let alloc = rt.alloc();
     let trials = &mut Trials::new(alloc);
     let options = LintOptions {
         level: Level::Errors,
         untrusted: false,
     };
-    let color = Color::Never;
-    push_report(alloc, &mut lines, trials, options, color, b"", FILE, &entry)?;
+    let remarks = remarks_of(alloc, trials, options, FILE, &entry)?;
+    let lines = report_lines(alloc, Color::Never, b"", remarks.as_slice())?;
     let wanted = br"cup
   \E=%+ %+\s
      ^  ^
@@ -32,10 +31,9 @@ cup
   do: print the value, or leave it out
 ";
     assert!(rt; lines.as_slice() == wanted.as_slice());
-    let json = report_json(alloc, trials, options, FILE, &entry)?;
+    let json = report_json(alloc, remarks.as_slice())?;
     let wanted =
         br#"[{"finding":"termcap-parameter","fix":"push the parameter before it, such as with %p1","meaning":"it pops a value, and the string has no %p","places":[2,5],"subjects":[{"name":"cup","text":"\\E=%+ %+\\s"}]},{"finding":"stack-residue","fix":"print the value, or leave it out","meaning":"on some path the value that it pushes is left","places":[5],"subjects":[{"name":"cup","text":"\\E=%+ %+\\s"}]}]"#;
-    assert!(rt; json.text.as_slice() == wanted.as_slice());
-    assert!(rt; !json.sound);
+    assert!(rt; json.as_slice() == wanted.as_slice());
     Ok(())
 }

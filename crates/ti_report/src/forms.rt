@@ -1,0 +1,18 @@
+//! How a list of remarks is told to people: plain code over the sinks of `ti_sink`, whose words rows show.
+//!
+//! What is told is the list: [`report_lines`] has a block for each remark, and [`print_remarks`] an object.
+
+mod coverage;
+mod document;
+mod explained;
+mod explanations;
+mod lines;
+mod sentence;
+mod table;
+mod which;
+
+pub use coverage::{Coverage, coverage_of};
+pub use document::{print_remarks, report_json};
+pub use explained::{is_explained, write_explanation, write_summaries};
+pub use lines::report_lines;
+pub use table::row;
