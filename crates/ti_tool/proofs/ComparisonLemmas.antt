@@ -26,7 +26,7 @@ high_status value (d ∷ ds) len is some = refl
 
 module _ (F : Type 0) (O : Type 0) (bytes line : O → List ℕ) (status : O → ℕ) (has_advice : Bool) (by : Likeness) (form : Comparison) (file other : List ℕ) where
   -- both are entries
-  pub both_entries : (r : Result O F) (contents of_other : List ℕ) (v w : EntryValue) → Spells contents v → Spells of_other w → IfOk r (λ o. AreCompared by form file other v w (bytes o) (line o) (status o))
+  pub both_entries : (r : Result O F) (contents of_other : List ℕ) (v w : EntryValue) → Spells contents v → Spells of_other w → IfOk r (λ o. AreCompared by form v w (bytes o) (line o) (status o))
       → IfOk r (λ o. IsCompared has_advice by form file other contents of_other (bytes o) (line o) (status o))
   both_entries (Ok o) contents of_other v w spells spells_too led = inl (v, w, spells, spells_too, led)
   both_entries (Err e) contents of_other v w spells spells_too led = tt

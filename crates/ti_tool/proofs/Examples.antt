@@ -3,7 +3,6 @@ use Rattle.std.proofs.Common.{◌≡◌, [], ◌∷◌, ◌++◌, true, false, a
 use Rattle.std.specs.Prelude.{Err, codes}
 use Rattle.ti_cap.specs.declared.language.CapFault.TheVariants.{CutShort}
 use Rattle.ti_cap.specs.declared.language.CapRefused.{CapRefused}
-use Rattle.ti_escape.specs.declared.color.Color.TheVariants.{Never}
 use Rattle.ti_json.specs.Rows.{HasFault, HasLimits, OfCapability, RowValue}
 use Rattle.ti_line.specs.declared.options.NameForm.TheVariants.{Notation}
 use Rattle.ti_line.specs.declared.options.Verdicts.TheVariants.{All, Faults}
@@ -11,7 +10,6 @@ use Rattle.ti_lint.specs.ExtendedClasses.{extended_classes}
 use Rattle.ti_names.specs.NameLists.{all_flags, all_numbers, all_texts}
 use Rattle.ti_words.specs.declared.Kind.TheVariants as kinds
 use Rattle.ti_words.specs.Items.{StandardSubject}
-use Rattle.ti_tool.specs.Comparisons.{headed_lines, heading}
 use Rattle.ti_tool.specs.Files.{shown_file}
 use Rattle.ti_tool.specs.ItemNames.{IsKindLabel}
 use Rattle.ti_tool.specs.Sources.{text_in_source}
@@ -19,10 +17,6 @@ use Rattle.ti_tool.specs.Unfit.{is_unknown}
 use Rattle.ti_tool.specs.declared.fault.ToolFault.TheVariants.{HasName}
 use Rattle.ti_tool.specs.declared.item_name.Names.TheVariants as names
 use Rattle.ti_tool.specs.Verdicts.{is_pattern, written}
-
--- `ti diff a - < b` at a terminal names the files first
-heading_row : heading (codes "a") (codes "-") ≡ codes "--- a\n+++ standard input\n"
-heading_row = refl
 
 -- `ti get '#10'` means the string `cup`, as `text#10` does
 bare_label : IsKindLabel names.All (codes "#10") kinds.Text 10
@@ -44,10 +38,6 @@ own_name_row = refl
 table_name_row : is_unknown (codes "cup") ≡ false
 unfolding all_flags all_numbers all_texts
 table_name_row = refl
-
--- where nothing differs nothing is written
-silent_row : headed_lines Never (codes "a") (codes "b") [] ≡ []
-silent_row = refl
 
 -- standard input stays `-` in a result, and another name is in the notation
 input_row : shown_file Notation (codes "-") ≡ codes "-"

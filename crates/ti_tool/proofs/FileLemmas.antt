@@ -1,5 +1,5 @@
 -- What is due for a file, and how it ends.
-use Rattle.std.proofs.Common.{◌≡◌, ◌<◌, ◌==◌, ℕ, Bool, true, false, List, [], arith, inr, length, refl, subst, sym}
+use Rattle.std.proofs.Common.{◌≡◌, ◌<◌, ℕ, Bool, true, false, List, [], arith, inr, refl, subst, sym}
 use Rattle.std.specs.Prelude.{Result, Ok, Err, IfOk}
 use Rattle.ti_words.specs.Spelling.{Spells}
 use Rattle.ti_words.specs.Value.{EntryValue}
@@ -9,18 +9,14 @@ use Rattle.ti_line.specs.declared.options.ListOptions.{ListOptions}
 use Rattle.ti_line.specs.declared.request.EntryAction.{EntryAction}
 use Rattle.ti_line.specs.declared.request.EntryAction.TheVariants as of_entry
 use Rattle.ti_listing.specs.Listing.{entry_lines}
-use Rattle.ti_tool.specs.Files.{IsDueOfFile, before_findings, one_of_several, result_of_file}
-use Rattle.ti_escape.specs.declared.color.Color.{Color}
-use Rattle.ti_lint.specs.declared.lint_options.LintOptions.{LintOptions}
-use Rattle.ti_report.specs.Reports.{AreLines}
-use Rattle.ti_report.specs.Lines.{Adds}
+use Rattle.ti_tool.specs.Files.{IsDueOfFile, IsResultOfFile, before_findings, one_of_several}
 use Rattle.ti_tool.specs.inner.Several.{IsDueOfSeveral}
-use Rattle.ti_tool.specs.Results.{IsDueIn, IsLinted}
+use Rattle.ti_tool.specs.Results.{IsDueIn}
 use Rattle.ti_tool.specs.Statuses.{status_for}
 
 -- what is due for an entry, with the name of the file, is due for the bytes that spell it
 pub due_of_file : (several : Bool) (action : EntryAction) (name : List ℕ) (passed : Bool) (contents : List ℕ) (v : EntryValue) (before plain out : List ℕ) → before ≡ before_findings several name
-    → Spells contents v → IsDueIn before action passed contents v (Ok plain) → out ≡ result_of_file several action name plain
+    → Spells contents v → IsDueIn before action passed contents v (Ok plain) → IsResultOfFile several action name plain out
     → IsDueOfFile several action name passed contents out
 due_of_file several action name passed contents v before plain out named spells due is =
     (plain, inr (v, spells, subst (λ (b : List ℕ). IsDueIn b action passed contents v (Ok plain)) named due), is)
@@ -56,11 +52,3 @@ due_as_it_is passed bytes (Ok a) action name contents v nameless due = absurd (c
 pub fault_is_high : (e : ToolFault) → 2 < status_for (Err e)
 fault_is_high (fault.Entry refused) = omega arith
 fault_is_high other = omega arith
-
--- lines that were written to none are those of the findings
-pub linted : (options : LintOptions) (color : Color) (before input : List ℕ) (v : EntryValue) (start lines : List ℕ) (passed : Bool) → start ≡ []
-    → Adds (AreLines options color before input v) start lines → passed ≡ (length lines == 0) → IsLinted options color before passed input v (Ok lines)
-linted options color before input v start lines passed empty adds none = go (subst (λ (s : List ℕ). Adds (AreLines options color before input v) s lines) empty adds)
-  where
-    go : Adds (AreLines options color before input v) [] lines → IsLinted options color before passed input v (Ok lines)
-    go (all, is, joined) = (subst (AreLines options color before input v) (sym joined) is, none)

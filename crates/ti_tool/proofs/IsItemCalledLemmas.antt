@@ -13,7 +13,7 @@ use Rattle.ti_entry.specs.Finding.{Lacks, names_before, names_of}
 use Rattle.ti_entry.specs.declared.finding.Position.{Position}
 use Rattle.ti_entry.specs.declared.finding.Position.TheVariants.{Standard, Extended}
 use Rattle.ti_entry.specs.Items.{item_at}
-use Rattle.ti_json.specs.Objects.{kind_word}
+use Rattle.ti_json.specs.Rows.{kind_word}
 use Rattle.ti_tool.specs.declared.item_name.Names.{Names}
 use Rattle.ti_tool.specs.declared.item_name.Names.TheVariants.{Texts, All}
 use Rattle.ti_tool.specs.ItemNames.{IsItemCalled, IsKindLabel, IsPlaceCalled, IsPositionBy, IsWordLabel, named_by}

@@ -5,15 +5,12 @@ use Rattle.ti_words.specs.Items.{FlagItem, ItemValue, NumberItem, TextItem}
 use Rattle.ti_words.specs.Texts.{AbsentText, CancelledText, TextOf}
 use Rattle.ti_words.specs.Value.{EntryValue}
 use Rattle.ti_entry.proofs.SpellsAtMostOneLemmas.{at_most_one}
-use Rattle.ti_line.specs.declared.options.Document.{Document}
-use Rattle.ti_line.specs.declared.options.Document.TheVariants as documents
 use Rattle.ti_line.specs.declared.request.Action.{Action}
 use Rattle.ti_line.specs.declared.request.Action.TheVariants.{Capability, Difference, Entry, Source}
 use Rattle.ti_line.specs.declared.request.Get.{Get}
 use Rattle.ti_line.specs.declared.request.EntryAction.{EntryAction}
 use Rattle.ti_line.specs.declared.request.EntryAction.TheVariants as of_entry
 use Rattle.ti_tool.specs.declared.fault.ToolFault.{ToolFault}
-use Rattle.ti_tool.specs.Documents.{AreObjects, FindsIn}
 use Rattle.ti_tool.specs.FileRuns.{AnswerLeadsTo, Contents, NoMemory, Unread}
 use Rattle.ti_tool.specs.Got.{IsValueResult}
 use Rattle.ti_tool.specs.Laws.{HasOneVerdict, InputHasOneResult, IsOneOf}
@@ -23,15 +20,9 @@ use Rattle.ti_tool.specs.Unfit.{IsDueIfFit}
 use Rattle.ti_tool.specs.declared.item_name.Names.TheVariants.{All}
 use Rattle.ti_tool.proofs.IsItemCalledLemmas.{one_item}
 use Rattle.ti_tool.proofs.UnfitLemmas.{fit_output}
-use Rattle.ti_tool.proofs.OneResultLemmas.{one_answer, one_objects, one_verdicts}
+use Rattle.ti_tool.proofs.OneResultLemmas.{one_answer, one_verdicts}
 
 -- ---- the verdict
-
-one_found_in : (document : Document) (input : List ℕ) (v : EntryValue) (objects others : List _) (passed as_passed : Bool) → IsOneOf (of_entry.Json document) → AreObjects document passed input v objects → AreObjects document as_passed input v others
-    → FindsIn document passed → FindsIn document as_passed → passed ≡ as_passed
-one_found_in documents.Listing input v objects others passed as_passed certain are also f g = f ∙ sym g
-one_found_in (documents.Verdicts which) input v objects others passed as_passed certain are also f g = (one_objects which v objects others passed as_passed are also).1
-one_found_in (documents.Findings options) input v objects others passed as_passed certain are also f g = absurd certain
 
 one_set : (item : Option ItemValue) (g : Get) (set as_set : Bool) (r s : Result (List ℕ) ToolFault) → IsValueResult item g set r → IsValueResult item g as_set s → set ≡ as_set
 one_set None g set as_set r s d h = d.0 ∙ sym h.0
@@ -44,7 +35,7 @@ one_set (Some (TextItem (TextOf text))) g set as_set r s d h = d.0 ∙ sym h.0
 one_in : (before : List ℕ) (e : EntryAction) (input : List ℕ) (v : EntryValue) (out outs : List ℕ) (passed as_passed : Bool) → IsOneOf e → IsDueIn before e passed input v (Ok out)
     → IsDueIn before e as_passed input v (Ok outs) → Finds (Entry e) passed → Finds (Entry e) as_passed → passed ≡ as_passed
 one_in before (of_entry.Show options) input v out outs passed as_passed certain d h f g = f ∙ sym g
-one_in before (of_entry.Json document) input v out outs passed as_passed certain (objects, are, is) (others, also, same) f g = one_found_in document input v objects others passed as_passed certain are also f g
+one_in before (of_entry.Json document) input v out outs passed as_passed certain d h f g = absurd certain
 one_in before (of_entry.Check which naming) input v out outs passed as_passed certain d h f g = (one_verdicts which naming v out outs passed as_passed d h).1
 one_in before (of_entry.Lint options color) input v out outs passed as_passed certain d h f g = absurd certain
 one_in before (of_entry.Expand e) input v out outs passed as_passed certain d h f g = f ∙ sym g

@@ -1,9 +1,8 @@
 -- For given parameters and bytes at most one result is due, and no fault of a call itself.
 use Rattle.std.proofs.Common.{◌≡◌, ◌⊎◌, ℕ, zero, suc, ◌<◌, ◌≤◌, Bool, List, [], ◌∷◌, ◌++◌, length, Ok, Err, Some, None, inl, inr, refl, sym, ap, ap₂, subst, ◌∙◌, arith, pos}
 use Rattle.ti_words.specs.Items.{FlagItem, ItemValue, Listed, NumberItem, SubjectValue, TextItem, items, text_in}
-use Rattle.std.specs.List.{flat_map}
 use Rattle.ti_escape.specs.declared.form.Form.TheVariants as forms
-use Rattle.std.specs.Prelude.{Option, Result, option_and_then, replicate, codes}
+use Rattle.std.specs.Prelude.{Option, Result, option_and_then, replicate}
 use Rattle.ti_words.specs.Texts.{AbsentText, CancelledText, TextOf}
 use Rattle.ti_words.specs.Value.{EntryValue}
 use Rattle.ti_layout.specs.declared.fault.Refused.{Refused}
@@ -23,8 +22,6 @@ use Rattle.ti_expand.specs.declared.values.Value.{Value}
 use Rattle.ti_expand.specs.State.{start}
 use Rattle.ti_expand.specs.Meaning.{meaning}
 use Rattle.ti_expand.specs.Expands.{IsFirstTooLong}
-use Rattle.ti_escape.specs.declared.color.Color.{Color}
-use Rattle.ti_lint.specs.declared.lint_options.LintOptions.{LintOptions}
 use Rattle.ti_pad.specs.Setting.{Setting}
 use Rattle.ti_pad.specs.Padded.{padded_text}
 use Rattle.ti_base.specs.Limits.{most_padded_bytes}
@@ -42,20 +39,17 @@ use Rattle.ti_tool.specs.declared.fault.ToolFault.TheVariants as fault
 use Rattle.ti_tool.specs.Laws.{HasOneAnswer, IsOneOf, IsOneOutput}
 use Rattle.ti_line.specs.Options.{output_bytes}
 use Rattle.ti_line.specs.declared.options.Document.{Document}
-use Rattle.ti_line.specs.declared.options.Document.TheVariants as documents
-use Rattle.ti_tool.specs.Documents.{AreObjects, IsDocument}
-use Rattle.ti_tool.specs.Results.{IsExpansion, IsUnexpanded, IsCappedAs, IsPadded, IsDue, IsDueFor, IsDueFrom, IsDueIn, IsDueOf, IsEncoding, IsJudgement, IsLinted, IsOutputOf, in_width}
+use Rattle.ti_tool.specs.Documents.{IsDocument}
+use Rattle.ti_tool.specs.Results.{IsExpansion, IsUnexpanded, IsCappedAs, IsPadded, IsDue, IsDueFor, IsDueFrom, IsDueIn, IsDueOf, IsEncoding, IsJudgement, IsOutputOf, in_width}
 use Rattle.ti_tool.specs.Sources.{IsDueForText, text_in_source}
 use Rattle.ti_tool.specs.Traces.{IsTracedValue}
-use Rattle.serde_json.specs.Data.{Data}
-use Rattle.ti_json.specs.Objects.{array_text, row_objects}
 use Rattle.ti_json.specs.Rows.{ContentValue, HasFault, HasLimits, RowValue}
 use Rattle.ti_json.specs.Rows.{OfCapability as on_capability}
 use Rattle.ti_listing.specs.Listing.{row_lines}
 use Rattle.ti_line.specs.declared.options.Verdicts.{Verdicts}
 use Rattle.ti_tool.specs.Unfit.{IsDueIfFit}
 use Rattle.ti_tool.proofs.UnfitLemmas.{fit_never, fit_once}
-use Rattle.ti_tool.specs.Verdicts.{AreRows, AreVerdictObjects, AreVerdicts, HasRows, IsJudged, are_sound, written}
+use Rattle.ti_tool.specs.Verdicts.{AreRows, AreVerdicts, HasRows, IsJudged, are_sound, written}
 use Rattle.ti_line.specs.declared.given.Given.{Given}
 use Rattle.ti_line.specs.declared.request.Get.{Get}
 use Rattle.ti_tool.specs.Got.{IsDueBy, IsGot, IsPaddedAlone, IsTextResult, IsValueResult}
@@ -230,11 +224,6 @@ pub one_verdicts : (which : Verdicts) (naming : Naming) (v : EntryValue) (lines 
 one_verdicts which naming v lines others passed as_passed (rows, are, is, s) (again, also, same, t) =
     let one = ap (written which) (are_one (items v) rows again are also) in (is ∙ ap (row_lines (record { naming = naming; form = forms.Notation })) one ∙ sym same, s ∙ ap are_sound one ∙ sym t)
 
-pub one_objects : (which : Verdicts) (v : EntryValue) (objects others : List Data) (passed as_passed : Bool) → AreVerdictObjects which v objects passed → AreVerdictObjects which v others as_passed
-    → (objects ≡ others) × (passed ≡ as_passed)
-one_objects which v objects others passed as_passed (rows, are, is, s) (again, also, same, t) =
-    let one = ap (written which) (are_one (items v) rows again are also) in (is ∙ ap (flat_map row_objects) one ∙ sym same, s ∙ ap are_sound one ∙ sym t)
-
 one_judgement : (which : Verdicts) (naming : Naming) (v : EntryValue) (passed as_passed : Bool) (r s : Result (List ℕ) ToolFault) → IsJudgement which naming passed v r → IsJudgement which naming as_passed v s → r ≡ s
 one_judgement which naming v passed as_passed (Ok a) (Ok b) d h = ap Ok (one_verdicts which naming v a b passed as_passed d h).0
 one_judgement which naming v passed as_passed (Ok a) (Err e) d h = absurd h
@@ -279,20 +268,6 @@ one_got g set as_set v r s (item, called, d) (other, again, h) =
 
 -- ---- documents
 
-one_list : (document : Document) (passed as_passed : Bool) (input : List ℕ) (v : EntryValue) (objects others : List Data)
-    → IsOneOf (of_entry.Json document) → AreObjects document passed input v objects → AreObjects document as_passed input v others → objects ≡ others
-one_list documents.Listing passed as_passed input v objects others certain are are_too = are ∙ sym are_too
-one_list (documents.Verdicts which) passed as_passed input v objects others certain are are_too = (one_objects which v objects others passed as_passed are are_too).0
-one_list (documents.Findings options) passed as_passed input v objects others certain are are_too = absurd certain
-
-one_document : (document : Document) (passed as_passed : Bool) (input : List ℕ) (v : EntryValue) (r s : Result (List ℕ) ToolFault)
-    → IsOneOf (of_entry.Json document) → IsDocument document passed input v r
-    → IsDocument document as_passed input v s → r ≡ s
-one_document document passed as_passed input v (Ok a) (Ok b) certain (objects, are, e) (others, are_too, f) =
-    ap Ok (e ∙ ap (λ ds. array_text ds ++ codes "\n") (one_list document passed as_passed input v objects others certain are are_too) ∙ sym f)
-one_document document passed as_passed input v (Ok a) (Err e) certain d h = absurd h
-one_document document passed as_passed input v (Err e) s certain d h = absurd d
-
 document_never : (document : Document) (passed : Bool) (input : List ℕ) (v : EntryValue) → IsNeverOwn (IsDocument document passed input v)
 document_never document passed input v = record { no_write = λ gone d. d; no_memory = λ d. d }
 
@@ -309,7 +284,7 @@ one_for_text c parameters (Err e) certain = λ r s d h. d ∙ sym h
 one_on : (before : List ℕ) (e : EntryAction) (passed as_passed : Bool) (input : List ℕ) (v : EntryValue) (r s : Result (List ℕ) ToolFault)
     → IsOneOf e → IsDueIn before e passed input v r → IsDueIn before e as_passed input v s → r ≡ s
 one_on before (of_entry.Show options) passed as_passed input v r s certain d h = d ∙ sym h
-one_on before (of_entry.Json document) passed as_passed input v r s certain d h = one_document document passed as_passed input v r s certain d h
+one_on before (of_entry.Json document) passed as_passed input v r s certain d h = absurd certain
 one_on before (of_entry.Check which naming) passed as_passed input v r s certain d h = one_judgement which naming v passed as_passed r s d h
 one_on before (of_entry.Lint options color) passed as_passed input v r s certain d h = absurd certain
 one_on before (of_entry.Expand e) passed as_passed input v r s certain d h = one_due_for e.name.names e.name.name.now e.parameters.values e.padding e.output v r s d h

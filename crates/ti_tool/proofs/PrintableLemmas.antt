@@ -35,18 +35,12 @@ use Rattle.ti_tool.specs.Got.{IsTextResult, IsValueResult, number_or_none}
 use Rattle.ti_listing.specs.Labels.{extended_label, names_in_form, subject_label, subject_word}
 use Rattle.ti_json.specs.Rows.{ContentValue, HasFault, HasFormat, HasLimits, HasNames, HasNumber, HasText, InState, IsSet, OfCapability, OfFormat, OfNames, RowValue, TopicValue, entry_rows, is_absent}
 use Rattle.ti_listing.specs.Listing.{content_words, entry_lines, row_line, row_lines, topic_label}
-use Rattle.serde_json.specs.Data.{Data}
 use Rattle.ti_tool.specs.Verdicts.{written}
-use Rattle.ti_json.proofs.TextLemmas.{IsText, both, decimal_text, label_text, signed_text}
-use Rattle.ti_json.proofs.PlainLemmas.{HavePlain, array_is_text, entry_is_text, fault_text, format, json_is_text, rows_are_plain, state_text}
-use Rattle.ti_names.specs.AllNames.{front}
-use Rattle.ti_json.specs.Objects.{array_text, text_json}
+use Rattle.ti_json.proofs.TextLemmas.{IsText, both, decimal_text, fault_text, format, label_text, signed_text, state_text}
 use Rattle.ti_line.specs.declared.options.Document.{Document}
 use Rattle.ti_line.specs.declared.options.Document.TheVariants as documents
-use Rattle.ti_report.proofs.PlainLemmas.{report_is_text}
-use Rattle.ti_tool.specs.Documents.{AreObjects, key_of}
-use Rattle.ti_tool.specs.Files.{before_findings, each_line, one_of_several, shown_file}
-use Rattle.ti_tool.proofs.DocumentLemmas.{without_newline}
+use Rattle.ti_tool.specs.Documents.{IsInObject, IsTextOf}
+use Rattle.ti_tool.specs.Files.{IsOneOfSeveral, before_findings, each_line, shown_file}
 use Rattle.ti_tool.specs.Results.{IsDue, IsDueIn}
 use Rattle.ti_tool.specs.Printable.{CapabilitiesArePages, EntriesArePages, IsEscaped}
 use Rattle.ti_tool.specs.Voice.{IsPage}
@@ -60,10 +54,10 @@ page_of (char ∷ chars) is = let (first, more) = and_parts (is_printable char) 
 joined : (a b : List ℕ) → IsPage a → IsPage b → IsPage (a ++ b)
 joined a b of_a of_b = list_all-append is_plain a b ∙ and_from (list_all is_plain a) (list_all is_plain b) of_a of_b
 
-line : (text : List ℕ) → IsText text → IsPage (text ++ codes "\n")
+pub line : (text : List ℕ) → IsText text → IsPage (text ++ codes "\n")
 line text is = joined text (codes "\n") (page_of text is) refl
 
-same_page : (out page : List ℕ) → out ≡ page → IsPage page → IsPage out
+pub same_page : (out page : List ℕ) → out ≡ page → IsPage page → IsPage out
 same_page out page is of_page = ap (list_all is_plain) is ∙ of_page
 
 -- ---- labels
@@ -127,26 +121,15 @@ module _ (options : ListOptions) (e : options.form ≡ forms.Notation) (n : opti
 
 -- ---- documents
 
-objects_text : (document : Document) (passed : Bool) (input : List ℕ) (v : EntryValue) (objects : List Data) → AreObjects document passed input v objects → IsText (array_text objects)
-objects_text documents.Listing passed input v objects are = subst (λ ds. IsText (array_text ds)) (sym are) (entry_is_text v)
-objects_text (documents.Verdicts which) passed input v objects (rows, are, is, s) = array_is_text objects (subst HavePlain (sym is) (rows_are_plain (written which rows)))
-objects_text (documents.Findings options) passed input v objects are = report_is_text options input v passed objects are
+text_is_text : (document : Document) (passed : Bool) (input : List ℕ) (v : EntryValue) (text : List ℕ) → IsTextOf document passed input v text → IsText text
+text_is_text documents.Listing passed input v text (verdict, printable) = printable
+text_is_text (documents.Verdicts which) passed input v text (verdict, printable) = printable
+text_is_text (documents.Findings options) passed input v text is = is.printable
 
-key_text : (document : Document) → IsText (key_of document)
-key_text documents.Listing = refl
-key_text (documents.Verdicts which) = refl
-key_text (documents.Findings options) = refl
-
--- of one of several files
-object_page : (document : Document) (name text out : List ℕ) → IsText text → out ≡ text ++ codes "\n" → IsPage (one_of_several (of_entry.Json document) name out)
-object_page document name text out is e =
-    let head = codes "{\"file\":" ++ text_json name ++ codes ",\"" ++ key_of document ++ codes "\":" in
-    let of_head : IsText head =
-    both (codes "{\"file\":" ++ text_json name ++ codes ",\"" ++ key_of document) (codes "\":")
-    (both (codes "{\"file\":" ++ text_json name ++ codes ",\"") (key_of document)
-    (both (codes "{\"file\":" ++ text_json name) (codes ",\"") (both (codes "{\"file\":") (text_json name) refl (json_is_text name)) refl) (key_text document)) refl in
-    same_page (head ++ front out ++ codes "}\n") (head ++ text ++ codes "}\n") (ap (λ x. head ++ front x ++ codes "}\n") e ∙ ap (λ x. head ++ x ++ codes "}\n") (without_newline text))
-    (joined (head ++ text) (codes "}\n") (page_of (head ++ text) (both head text of_head is)) refl)
+of_several_page : (document : Document) (name plain out : List ℕ) → IsInObject document name plain out → IsPage out
+of_several_page documents.Listing name plain out page = page
+of_several_page (documents.Verdicts which) name plain out page = page
+of_several_page (documents.Findings options) name plain out stands = stands.page
 
 -- ---- outputs
 
@@ -197,29 +180,31 @@ each_page before of_before false (b ∷ bs) is =
     let (first, more) = and_parts (is_plain b) (list_all is_plain bs) is in
     and_from (is_plain b) (list_all is_plain (each_line before (b == 10) bs)) first (each_page before of_before (b == 10) bs more)
 
-due_page : (before : List ℕ) (action : EntryAction) (name : List ℕ) (passed : Bool) (input : List ℕ) (v : EntryValue) (out : List ℕ) → IsEscaped action → IsDueIn before action passed input v (Ok out)
-    → IsPage out × IsPage (one_of_several action name out)
-due_page before (of_entry.Show options) name passed input v out (e, n) listed =
-    let is : out ≡ entry_lines options v = cc in
-    let page = same_page out _ is (rows_page options e n (entry_rows v)) in
+-- alone, and as one of several
+due_page : (before : List ℕ) (action : EntryAction) (name : List ℕ) (passed : Bool) (input : List ℕ) (v : EntryValue) (plain : List ℕ) → IsEscaped action → IsDueIn before action passed input v (Ok plain)
+    → IsPage plain × ((out : List ℕ) → IsOneOfSeveral action name plain out → IsPage out)
+due_page before (of_entry.Show options) name passed input v plain (e, n) listed =
+    let is : plain ≡ entry_lines options v = cc in
+    let page = same_page plain _ is (rows_page options e n (entry_rows v)) in
     let head = codes "file: " ++ shown_file options.naming.form name in
-    (page, joined (head ++ codes "\n") out (line head (both (codes "file: ") (shown_file options.naming.form name) refl (file_text options.naming.form name n))) page)
-due_page before (of_entry.Json document) name passed input v out e (objects, are, is) =
-    let text = objects_text document passed input v objects are in
-    (same_page out _ is (line (array_text objects) text), object_page document name (array_text objects) out text is)
-due_page before (of_entry.Check which naming) name passed input v out n (rows, are, is, s) =
-    let page = same_page out _ is (rows_page (record { naming = naming; form = forms.Notation }) refl n (written which rows)) in
+    let all = joined (head ++ codes "\n") plain (line head (both (codes "file: ") (shown_file options.naming.form name) refl (file_text options.naming.form name n))) page in
+    (page, λ out one. same_page out _ one all)
+due_page before (of_entry.Json document) name passed input v plain e (text, of, is) =
+    (same_page plain _ is (line text (text_is_text document passed input v text of)), λ out one. of_several_page document name plain out one)
+due_page before (of_entry.Check which naming) name passed input v plain n (rows, are, is, s) =
+    let page = same_page plain _ is (rows_page (record { naming = naming; form = forms.Notation }) refl n (written which rows)) in
     let before = shown_file naming.form name ++ codes ": " in
-    (page, each_page before (page_of before (both (shown_file naming.form name) (codes ": ") (file_text naming.form name n) refl)) true out page)
-due_page before (of_entry.Expand x) name passed input v out e (item, called, due) =
-    let page = expanded_page (option_and_then text_in item) x.padding x.output x.parameters.values out e due in (page, page)
-due_page before (of_entry.Get g) name passed input v out e (item, called, due) =
-    let page = value_page g passed out item e (fit_output g.name.now g.given item (IsValueResult item g passed) out due) in (page, page)
-due_page before action name passed input v out escaped due = absurd escaped
+    let all = each_page before (page_of before (both (shown_file naming.form name) (codes ": ") (file_text naming.form name n) refl)) true plain page in
+    (page, λ out one. same_page out _ one all)
+due_page before (of_entry.Expand x) name passed input v plain e (item, called, due) =
+    let page = expanded_page (option_and_then text_in item) x.padding x.output x.parameters.values plain e due in (page, λ out one. same_page out _ one page)
+due_page before (of_entry.Get g) name passed input v plain e (item, called, due) =
+    let page = value_page g passed plain item e (fit_output g.name.now g.given item (IsValueResult item g passed) plain due) in (page, λ out one. same_page out _ one page)
+due_page before action name passed input v plain escaped due = absurd escaped
 
 pub entries : EntriesArePages
 entries several action name passed contents out escaped (plain, inl (refused, is, same), result) = absurd cc
 entries true action name passed contents out escaped (plain, inr (v, spells, due), result) =
-    same_page out _ result (due_page (before_findings true name) action name passed contents v plain escaped due).1
+    (due_page (before_findings true name) action name passed contents v plain escaped due).1 out result
 entries false action name passed contents out escaped (plain, inr (v, spells, due), result) =
     same_page out _ result (due_page (before_findings false name) action name passed contents v plain escaped due).0

@@ -1,21 +1,21 @@
 -- What a run of `diff` does with the two files that it compares.
-use Rattle.std.specs.Prelude.{◌≡◌, ◌⊎◌, ℕ, Bool, List, [], ◌∷◌, ◌++◌, codes, Some, false}
+use Rattle.std.specs.List.{list_all}
+use Rattle.std.specs.Prelude.{◌≡◌, ◌⊎◌, ℕ, Bool, true, List, [], ◌∷◌, ◌++◌, codes, Some, false}
+use Rattle.ti_escape.specs.Laws.{is_printable}
 use Rattle.ti_layout.specs.declared.fault.Refused.{Refused}
 use Rattle.ti_layout.specs.Refusal.{refusal}
 use Rattle.ti_words.specs.Spelling.{Spells}
 use Rattle.ti_words.specs.Value.{EntryValue}
-use Rattle.ti_escape.specs.declared.color.Color.{Color}
 use Rattle.ti_line.specs.declared.options.Comparison.{Comparison}
 use Rattle.ti_line.specs.declared.options.Comparison.TheVariants as forms
 use Rattle.ti_line.specs.declared.options.Likeness.{Likeness}
 use Rattle.ti_line.specs.declared.request.Pair.{Pair}
 use Rattle.ti_tool.specs.declared.fault.ToolFault.TheVariants as fault
 use Rattle.ti_listing.specs.Differences.{AreDifferences, DifferenceValue}
-use Rattle.ti_listing.specs.DifferingLines.{differing_lines, grouped_lines}
-use Rattle.ti_listing.specs.DifferingObjects.{differing_text}
 use Rattle.ti_tool.specs.FaultLines.{fault_line}
 use Rattle.ti_tool.specs.FileRuns.{Contents, Ends, IsRefusedMemory, IsSupplied, IsUnread, Supply, Unread}
-use Rattle.ti_tool.specs.Files.{file_called, file_line}
+use Rattle.ti_sink.specs.Pages.{is_page}
+use Rattle.ti_tool.specs.Files.{file_line}
 use Rattle.ti_tool.specs.Streams.{KnownFiles, Stream, Streams, file_name}
 use Rattle.ti_tool.specs.Voice.{IsAdvised}
 
@@ -31,33 +31,23 @@ abbrev pub status_of : List DifferenceValue → ℕ
 status_of [] = 0
 status_of (d ∷ ds) = 1
 
--- the names of the files, each after the sign of its lines
-abbrev pub heading : (file other : List ℕ) → List ℕ
-heading file other =
-    codes "--- " ++ file_called file ++ codes "\n+++ " ++ file_called other ++ codes "\n"
-
--- lines for people come after that, if there are any
-abbrev pub headed_lines : Color → (file other : List ℕ) → List DifferenceValue → List ℕ
-headed_lines color file other [] = []
-headed_lines color file other (d ∷ ds) = heading file other ++ grouped_lines color (d ∷ ds)
-
--- what the entries of two files do not have alike, as lines or as a document of JSON in a line
-abbrev pub comparison_text : Comparison → (file other : List ℕ) → List DifferenceValue → List ℕ
-comparison_text (forms.Lines color) file other told = differing_lines color told
-comparison_text (forms.Headed color) file other told = headed_lines color file other told
-comparison_text forms.Json file other told = differing_text told ++ codes "\n"
+-- what the entries of two files do not have alike, as a page of lines, or as a document of JSON in a line; rows show both
+abbrev pub IsComparisonText : Comparison → List ℕ → Type 0
+IsComparisonText (forms.Lines color) out = is_page color out ≡ true
+IsComparisonText (forms.Headed color) out = is_page color out ≡ true
+IsComparisonText forms.Json out = (text : List ℕ) × (list_all is_printable text ≡ true) × (out ≡ text ++ codes "\n")
 
 -- two entries lead to that
-abbrev pub AreCompared : Likeness → Comparison → (file other : List ℕ) → EntryValue → EntryValue → List ℕ → List ℕ → ℕ → Type 0
-AreCompared by form file other v w out line status =
+abbrev pub AreCompared : Likeness → Comparison → EntryValue → EntryValue → List ℕ → List ℕ → ℕ → Type 0
+AreCompared by form v w out line status =
     (told : List DifferenceValue) × AreDifferences by v w told
-    × (out ≡ comparison_text form file other told) × (line ≡ []) × (status ≡ status_of told)
+    × IsComparisonText form out × (line ≡ []) × (status ≡ status_of told)
 
 -- contents that are two entries lead to that; else the first file that is none leads to its fault
 abbrev pub IsCompared : Bool → Likeness → Comparison → List ℕ → List ℕ → List ℕ → List ℕ → List ℕ → List ℕ → ℕ → Type 0
 IsCompared has_advice by form file other contents of_other out line status =
     ((v : EntryValue) × (w : EntryValue) × Spells contents v × Spells of_other w
-    × AreCompared by form file other v w out line status)
+    × AreCompared by form v w out line status)
     ⊎ (IsRefusedFile has_advice file contents out line status
     ⊎ (((v : EntryValue) × Spells contents v) × IsRefusedFile has_advice other of_other out line status))
 

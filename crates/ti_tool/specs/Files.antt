@@ -7,7 +7,7 @@ use Rattle.ti_line.specs.declared.options.NameForm.{NameForm}
 use Rattle.ti_line.specs.declared.options.NameForm.TheVariants as name_forms
 use Rattle.ti_line.specs.declared.request.EntryAction.{EntryAction}
 use Rattle.ti_line.specs.declared.request.EntryAction.TheVariants as of_entry
-use Rattle.ti_tool.specs.Documents.{in_object}
+use Rattle.ti_tool.specs.Documents.{IsInObject}
 use Rattle.ti_tool.specs.Results.{IsDueOf}
 
 -- the name of a file in a result: as it stands, or in the notation; that of standard input stays `-`
@@ -21,20 +21,23 @@ each_line before at_start [] = []
 each_line before true (b ∷ bs) = before ++ b ∷ each_line before (b == letter (codes "\n")) bs
 each_line before false (b ∷ bs) = b ∷ each_line before (b == letter (codes "\n")) bs
 
--- the result of one of several files: a listing after a line with the name, each verdict after the name, a
--- document in an object with the name
+-- the result of one of several files: a listing after a line with the name, each verdict after the name
 abbrev pub one_of_several : EntryAction → List ℕ → List ℕ → List ℕ
 one_of_several (of_entry.Show options) name out =
     codes "file: " ++ shown_file options.naming.form name ++ codes "\n" ++ out
 one_of_several (of_entry.Check which naming) name out =
     each_line (shown_file naming.form name ++ codes ": ") true out
-one_of_several (of_entry.Json document) name out = in_object document name out
 one_of_several _ name out = out
 
+-- a document is in an object with the name
+abbrev pub IsOneOfSeveral : EntryAction → List ℕ → List ℕ → List ℕ → Type 0
+IsOneOfSeveral (of_entry.Json document) name plain out = IsInObject document name plain out
+IsOneOfSeveral action name plain out = out ≡ one_of_several action name plain
+
 -- the result of a file; of one alone it is as of an entry on standard input
-abbrev pub result_of_file : Bool → EntryAction → List ℕ → List ℕ → List ℕ
-result_of_file true action name out = one_of_several action name out
-result_of_file false action name out = out
+abbrev pub IsResultOfFile : Bool → EntryAction → List ℕ → List ℕ → List ℕ → Type 0
+IsResultOfFile true action name plain out = IsOneOfSeveral action name plain out
+IsResultOfFile false action name plain out = out ≡ plain
 
 -- what a file is called before a line on it
 abbrev pub file_called : List ℕ → List ℕ
@@ -49,7 +52,7 @@ abbrev pub IsDueOfFile : Bool → EntryAction → List ℕ → Bool → List ℕ
 IsDueOfFile several action name passed contents out =
     (plain : List ℕ)
     × IsDueOf (before_findings several name) action passed contents (Ok plain)
-    × (out ≡ result_of_file several action name plain)
+    × IsResultOfFile several action name plain out
 
 -- the line on the fault of a file
 abbrev pub file_line : List ℕ → List ℕ → List ℕ

@@ -9,7 +9,7 @@ use Rattle.ti_entry.specs.Finding.{IsFirstNamed, standard_place}
 use Rattle.ti_entry.specs.declared.finding.Position.{Position}
 use Rattle.ti_entry.specs.declared.finding.Position.TheVariants.{Standard, Extended}
 use Rattle.ti_entry.specs.Items.{item_at}
-use Rattle.ti_json.specs.Objects.{kind_word}
+use Rattle.ti_json.specs.Rows.{kind_word}
 use Rattle.ti_line.specs.TextLabels.{IsLabel}
 use Rattle.ti_tool.specs.declared.item_name.Names.{Names}
 use Rattle.ti_tool.specs.declared.item_name.Names.TheVariants.{Texts, All}

@@ -5,7 +5,6 @@ use Rattle.ti_words.specs.Value.{EntryValue}
 use Rattle.ti_words.specs.Spelling.{Spells}
 use Rattle.ti_draft.specs.Canonical.{canonical}
 use Rattle.ti_line.specs.declared.request.Action.{Action}
-use Rattle.ti_line.specs.declared.options.Document.TheVariants as documents
 use Rattle.ti_line.specs.declared.request.Action.TheVariants.{Capability, Difference, Entry, Source}
 use Rattle.ti_line.specs.declared.request.CapabilityResult.{CapabilityResult}
 use Rattle.ti_line.specs.declared.request.CapabilityResult.TheVariants as of_cap
@@ -23,10 +22,11 @@ WideAndBack = (input wide back : List ℕ) (v : EntryValue) → Spells input v �
     → back ≡ canonical v
 
 -- what strings make a terminal do is followed along all paths, which finds all and may find more: so a report is not one by what it
--- means, but for the same findings on that (`reports_are_one` of ti_report), and each other result is
+-- means, but for the same findings on that (`reports_are_one` of ti_report); what documents of JSON and traces say is shown by rows; and
+-- each other result is one
 abbrev pub IsOneOf : EntryAction → Type 0
 IsOneOf (of_entry.Lint options color) = ⊥
-IsOneOf (of_entry.Json (documents.Findings options)) = ⊥
+IsOneOf (of_entry.Json document) = ⊥
 IsOneOf (of_entry.Trace t) = ⊥
 IsOneOf action = Unit {0}
 

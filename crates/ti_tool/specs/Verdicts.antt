@@ -1,8 +1,7 @@
 -- What `check` shows of the texts of an entry: a row on each, or on those with a fault, in a line or in an object of JSON, and
 -- whether all of these are capabilities.
 use Rattle.std.specs.Prelude.{◌≡◌, ◌⊎◌, ◌&&◌, ℕ, Bool, true, false, not, List, [], ◌∷◌, ◌++◌, Option, Some, None, filter}
-use Rattle.std.specs.List.{flat_map, list_all}
-use Rattle.serde_json.specs.Data.{Data}
+use Rattle.std.specs.List.{list_all}
 use Rattle.ti_words.specs.declared.Kind.TheVariants as kinds
 use Rattle.ti_words.specs.Items.{Listed, StandardSubject, SubjectValue, items, text_in}
 use Rattle.ti_words.specs.Value.{EntryValue}
@@ -13,7 +12,6 @@ use Rattle.ti_cap.specs.declared.language.CapRefused.{CapRefused}
 use Rattle.ti_cap.specs.Capability.{HasDepth, HasBound}
 use Rattle.ti_cap.specs.Refusal.{IsFaultless, IsRefusal}
 use Rattle.ti_escape.specs.declared.form.Form.TheVariants as forms
-use Rattle.ti_json.specs.Objects.{row_objects}
 use Rattle.ti_json.specs.Rows.{ContentValue, HasFault, HasLimits, OfCapability, RowValue}
 use Rattle.ti_line.specs.declared.options.Naming.{Naming}
 use Rattle.ti_line.specs.declared.options.Verdicts.{Verdicts}
@@ -76,14 +74,13 @@ is_written Faults row = false
 abbrev pub written : Verdicts → List RowValue → List RowValue
 written which rows = filter (is_written which) rows
 
--- the lines, and the objects
+-- the lines
 abbrev pub AreVerdicts : Verdicts → Naming → EntryValue → List ℕ → Bool → Type 0
 AreVerdicts which naming v out passed =
     (rows : List RowValue) × AreRows (items v) rows
     × (out ≡ row_lines (record { naming = naming; form = forms.Notation }) (written which rows))
     × (passed ≡ are_sound (written which rows))
 
-abbrev pub AreVerdictObjects : Verdicts → EntryValue → List Data → Bool → Type 0
-AreVerdictObjects which v objects passed =
-    (rows : List RowValue) × AreRows (items v) rows
-    × (objects ≡ flat_map row_objects (written which rows)) × (passed ≡ are_sound (written which rows))
+-- whether none of those that are written has a fault
+abbrev pub IsVerdict : Verdicts → EntryValue → Bool → Type 0
+IsVerdict which v passed = (rows : List RowValue) × AreRows (items v) rows × (passed ≡ are_sound (written which rows))

@@ -2,9 +2,8 @@
 //!
 //! The first file that can't be read, or is no entry, ends the run with the line on that.
 
-ghost use Rattle.std.specs.Prelude.{◌≡◌, ◌≢◌, ◌≤◌, ◌⊎◌, ◌++◌, IfOk, OnOk, map};
-ghost use Rattle.ti_listing.specs.Values.{difference_value};
-ghost use Rattle.ti_tool.specs.Comparisons.{AreCompared, AreSupplied, IsCompared, IsComparison, IsRefusedFile, RanDifference, comparison_text as the_comparison_text, headed_lines as the_headed_lines, heading};
+ghost use Rattle.std.specs.Prelude.{◌≡◌, ◌≢◌, ◌≤◌, ◌⊎◌, IfOk};
+ghost use Rattle.ti_tool.specs.Comparisons.{AreCompared, AreSupplied, IsCompared, IsComparison, IsComparisonText, IsRefusedFile, RanDifference};
 ghost use Rattle.ti_layout.specs.Refusal.{refusal};
 ghost use Rattle.ti_tool.specs.FileRuns.{Supply};
 ghost use Rattle.ti_tool.specs.Runs.{MayHaveWritten};
@@ -17,15 +16,14 @@ use crate::fault::ToolFault;
 use crate::fault_line::{advised, fault_line};
 use crate::file_answer::push_called;
 use crate::outcome::{Outcome, contents_of, fault_outcome, refused_outcome};
-use crate::short_page::ShortPage;
 use crate::store::Store;
 use crate::voice::{Tally, write_refusal};
 use std::alloc::{AllocError, Allocator};
 use std::io::{Read, Write};
 use ti_entry::{Entry, Refused, read};
-use ti_escape::Color;
 use ti_line::{Comparison, Pair};
-use ti_listing::{Difference, difference_of, differing_json, differing_lines, grouped_lines};
+use ti_listing::{Difference, difference_of, differing_json, differing_lines, write_grouped};
+use ti_sink::{Page, ShortPage};
 
 /// Returns the outcome of contents that are no entry.
 fn refusal_outcome<A: Allocator + Copy>(
@@ -46,36 +44,31 @@ fn refusal_outcome<A: Allocator + Copy>(
     fault_outcome(alloc, name, lines.as_slice(), 3)
 }
 
-/// Writes the names of the files, each after the sign of its lines.
-fn push_heading<A: Allocator>(out: &mut Vec<u8, A>, pair: &Pair<'_>) -> Result<(), AllocError>
-    ensures { OnOk result (out.new.items
-        ≡ out.old.items ++ heading pair.now.file.now pair.now.other.now) }
-{
-    out.extend_from_slice(b"--- ")?;
-    push_called(out, pair.file)?;
-    out.extend_from_slice(b"\n+++ ")?;
-    push_called(out, pair.other)?;
-    out.extend_from_slice(b"\n")
+/// Writes the name of a file as it is called in lines.
+fn write_called<A: Allocator + Copy>(page: &mut Page<A>, alloc: A, name: &str) {
+    let mut called = Vec::new(alloc);
+    if push_called(&mut called, name).is_err() {
+        page.refuse();
+    }
+    page.bytes(called.as_slice())
 }
 
-/// The lines for people, if there are any, after the names of the files.
-fn headed_lines<A: Allocator + Copy>(
+/// Writes the lines for people, if there are any, after the names of the files, each after the sign of its lines.
+fn write_headed<A: Allocator + Copy>(
+    page: &mut Page<A>,
     alloc: A,
-    color: Color,
     pair: &Pair<'_>,
     differences: &[Difference<'_>],
-) -> Result<Vec<u8, A>, AllocError>
-    ensures { IfOk result (λ v. v.items ≡ the_headed_lines color
-        pair.now.file.now pair.now.other.now (map difference_value differences.now)) }
-{
-    let mut out = Vec::new(alloc);
+) {
     if differences.is_empty() {
-        return Ok(out);
+        return;
     }
-    push_heading(&mut out, pair)?;
-    let lines = grouped_lines(alloc, color, differences)?;
-    out.extend_from_slice(lines.as_slice())?;
-    Ok(out)
+    page.put("--- ");
+    write_called(page, alloc, pair.file);
+    page.put("\n+++ ");
+    write_called(page, alloc, pair.other);
+    page.put("\n");
+    write_grouped(page, alloc, differences)
 }
 
 /// Returns the differences of the entries of two files, in the form that is requested.
@@ -84,12 +77,15 @@ fn comparison_text<A: Allocator + Copy>(
     pair: &Pair<'_>,
     differences: &[Difference<'_>],
 ) -> Result<Vec<u8, A>, AllocError>
-    ensures { IfOk result (λ v. v.items ≡ the_comparison_text pair.now.form
-        pair.now.file.now pair.now.other.now (map difference_value differences.now)) }
+    ensures { IfOk result (λ v. IsComparisonText pair.now.form v.items) }
 {
     match pair.form {
         Comparison::Lines(color) => differing_lines(alloc, color, differences),
-        Comparison::Headed(color) => headed_lines(alloc, color, pair, differences),
+        Comparison::Headed(color) => {
+            let mut page = Page::new(alloc, color);
+            write_headed(&mut page, alloc, pair, differences);
+            page.finish(color)
+        }
         Comparison::Json => as_line(differing_json(alloc, differences)?),
     }
 }
@@ -103,8 +99,7 @@ fn difference_outcome<'a, A: Allocator + Copy>(
 ) -> Result<Outcome<A>, AllocError>
     ensures ends { IfOk result (λ o. EndsFile o.status o.bytes.items o.line.items) }
     ensures led { IfOk result (λ o. AreCompared pair.now.likeness pair.now.form
-        pair.now.file.now pair.now.other.now one.now other.now
-        o.bytes.items o.line.items o.status) }
+        one.now other.now o.bytes.items o.line.items o.status) }
 {
     let differences = difference_of(alloc, pair.likeness, one, other)?;
     let status = if differences.is_empty() { 0 } else { 1 };

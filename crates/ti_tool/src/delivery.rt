@@ -12,11 +12,11 @@ use crate::fault::ToolFault;
 use crate::fault_line::{advised, fault_line};
 use crate::noted::{Stop, write_noted};
 use crate::outcome::Outcome;
-use crate::short_page::ShortPage;
 use crate::voice::write_stop;
 use std::alloc::{AllocError, Allocator};
 use std::io::Write;
 use ti_pad::write_out;
+use ti_sink::ShortPage;
 
 /// Reports that memory was refused.
 pub fn report_memory<E: Write>(errors: &mut E)

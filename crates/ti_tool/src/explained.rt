@@ -10,20 +10,16 @@ ghost use Rattle.ti_tool.specs.Streams.{Stream, streams};
 use crate::delivery::{Ending, deliver_last, line_alone};
 use crate::fault::ToolFault;
 use crate::fault_line::fault_line;
-use crate::short_page::ShortPage;
 use crate::voice::{write_explanations, write_unknown};
 use std::alloc::Allocator;
 use std::io::Write;
 use ti_escape::Color;
-use ti_report::finding_called;
-use ti_sink::Page;
+use ti_report::is_explained;
+use ti_sink::{Page, ShortPage};
 
 /// The first of some words that no finding has.
 fn first_unknown<'a>(words: &[&'a str]) -> Option<&'a str> {
-    words
-        .iter()
-        .copied()
-        .find(|word| finding_called(word).is_none())
+    words.iter().copied().find(|word| !is_explained(word))
 }
 
 /// Explains the findings with words, or lists all words if there are none. Nothing is read.

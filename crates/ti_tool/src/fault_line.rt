@@ -7,10 +7,10 @@ ghost use Rattle.ti_tool.specs.FaultLines.{fault_line, names_capability as the_n
 ghost use Rattle.ti_tool.specs.Voice.{IsAdvised, IsPage};
 
 use crate::fault::ToolFault;
-use crate::short_page::ShortPage;
 use arrayvec::ArrayVec;
 use itoa::Buffer;
 use ti_line::{EntryAction, WordFault};
+use ti_sink::ShortPage;
 
 /// The most bytes of a line.
 const MOST_BYTES: usize = 256;

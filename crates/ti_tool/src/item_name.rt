@@ -1,7 +1,7 @@
 //! The value of the capability that a name means.
 
 ghost use Rattle.std.specs.Prelude.{◌≡◌, ℕ, ◌++◌, IfSome, IfNone, List, option_map};
-ghost use Rattle.ti_json.specs.Objects.{kind_word};
+ghost use Rattle.ti_json.specs.Rows.{kind_word};
 ghost use Rattle.ti_words.specs.Items.{item_value};
 ghost use Rattle.ti_words.specs.declared.Kind.{Kind};
 ghost use Rattle.ti_tool.specs.declared.item_name.Names.TheVariants.{Texts};

@@ -23,7 +23,6 @@ mod outcome;
 mod pasted;
 mod program;
 mod result;
-mod short_page;
 mod source;
 mod status;
 mod store;

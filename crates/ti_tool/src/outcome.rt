@@ -11,7 +11,6 @@ ghost use Rattle.ti_tool.specs.inner.Files.{EndsFile, job_of};
 
 use crate::file_answer::{Named, answer_of_file, file_line};
 use crate::program::entry_line;
-use crate::short_page::ShortPage;
 use crate::status::status;
 use crate::store::{FoundFile, Store, read_contents};
 use crate::summary::look_at;
@@ -22,6 +21,7 @@ use std::io::{ErrorKind, Read};
 use ti_line::EntryAction;
 use ti_lint::LintOptions;
 use ti_report::Trials;
+use ti_sink::ShortPage;
 
 /// The request on each file.
 #[derive(Clone, Copy)]

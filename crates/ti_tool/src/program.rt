@@ -17,7 +17,6 @@ use crate::extras::{Extras, extras_of};
 use crate::fault::ToolFault;
 use crate::fault_line::{AdvisedLine, advised, fault_line, names_capability, said, words_line};
 use crate::files::run_files;
-use crate::short_page::ShortPage;
 use crate::status::status;
 use crate::store::{NoStore, Store};
 use crate::summary::report_contents;
@@ -28,6 +27,7 @@ use std::alloc::{Allocator, Global};
 use std::io::{Read, Write};
 use ti_entry::EntryReader;
 use ti_line::{Action, EntryAction, LineFault, NoRequest, Request, read_line};
+use ti_sink::ShortPage;
 
 /// The line on the fault of a request on an entry, of which these bytes were read, with the advice after it, if it is wanted.
 pub(crate) fn entry_line<A: Allocator + Copy>(

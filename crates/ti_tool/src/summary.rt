@@ -4,7 +4,6 @@ ghost use Rattle.std.specs.Prelude.{◌≡◌, None};
 ghost use Rattle.ti_tool.specs.Streams.{Stream, streams};
 ghost use Rattle.ti_tool.specs.Summaries.{IsSummarized, summary_of as the_summary_of};
 
-use crate::short_page::ShortPage;
 use crate::voice::{Tally, tally_of, write_summary};
 use std::alloc::{AllocError, Allocator};
 use std::io::Write;
@@ -12,6 +11,7 @@ use ti_line::{Action, Document, EntryAction};
 use ti_lint::LintOptions;
 use ti_pad::write_out;
 use ti_report::Trials;
+use ti_sink::ShortPage;
 
 /// The options of `lint`, if a summary is wanted of it.
 pub fn summary_of(wanted: bool, action: &Action<'_>) -> Option<LintOptions>

@@ -3,23 +3,21 @@
 //! One pass over the texts, of which equal ones in a row are analysed once. A text that is no output string, such as a
 //! pattern of input, can have a fault in an entry that is right.
 
-ghost use Rattle.std.specs.Prelude.{◌≡◌, List, IfOk};
-ghost use Rattle.serde_json.specs.Data.{Data, array};
-ghost use Rattle.serde_json.specs.View.{items_of};
-ghost use Rattle.ti_json.specs.Printed.{Prints, all_tokens, data_tokens};
+ghost use Rattle.std.specs.Prelude.{◌≡◌, IfOk};
 ghost use Rattle.ti_json.specs.Rows.{OfCapability, content_value};
 ghost use Rattle.ti_words.specs.Items.{subject_value};
-ghost use Rattle.ti_tool.specs.Verdicts.{AreVerdictObjects, AreVerdicts, is_pattern as the_is_pattern, is_written as the_is_written};
+ghost use Rattle.ti_tool.specs.Verdicts.{AreVerdicts, IsVerdict, is_pattern as the_is_pattern, is_written as the_is_written};
 
 use crate::command::Answer;
 use crate::verdict::{JudgedText, judge};
 use std::alloc::{AllocError, Allocator};
 use ti_entry::Entry;
 use ti_escape::Form;
-use ti_json::{Printer, Topic, print_row};
+use ti_json::{Topic, write_row};
 use ti_line::{ListOptions, Naming, Verdicts};
 use ti_listing::push_row;
 use ti_names::{Class, class_of};
+use ti_sink::Printer;
 use ti_words::{Kind, Subject};
 
 /// Whether a text is a pattern of input by terminfo(5), which are `u6` and `u8`.
@@ -76,37 +74,27 @@ pub fn verdicts_of<A: Allocator + Copy>(
     })
 }
 
-/// Prints the objects of the texts, and returns whether none of these has a fault.
-fn print_objects<A: Allocator>(printer: &mut Printer<A>, which: Verdicts, entry: &Entry<'_>) -> bool
-    ensures { (objects : List Data) × AreVerdictObjects which entry.now objects result
-        × Prints printer.old printer.new (all_tokens objects) }
+/// Writes the objects of an entry as an array, and returns whether none of these texts has a fault.
+pub fn write_verdicts<A: Allocator>(
+    printer: &mut Printer<A>,
+    which: Verdicts,
+    entry: &Entry<'_>,
+) -> bool
+    ensures { IsVerdict which entry.now result }
 {
     let mut are_sound = true;
     let mut last = judge(b"");
+    printer.begin_list();
     let mut items = entry.items();
     'items: while let Some((subject, item)) = items.next() {
         if let Some(text) = item.text() {
             last = last.next(text);
             if is_written(which, subject, last) {
-                print_row(printer, Topic::Capability(subject), last.content);
+                write_row(printer, Topic::Capability(subject), last.content);
                 are_sound &= last.is_sound();
             }
         }
     }
+    printer.end();
     are_sound
-}
-
-/// Prints the objects of an entry as an array, and returns whether none of these texts has a fault.
-pub fn print_verdicts<A: Allocator>(
-    printer: &mut Printer<A>,
-    which: Verdicts,
-    entry: &Entry<'_>,
-) -> bool
-    ensures { (objects : List Data) × AreVerdictObjects which entry.now objects result
-        × Prints printer.old printer.new (data_tokens (array (items_of objects))) }
-{
-    printer.begin_list();
-    let passed = print_objects(printer, which, entry);
-    printer.end_list();
-    passed
 }

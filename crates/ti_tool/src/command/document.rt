@@ -1,18 +1,17 @@
 //! `--json`: documents of JSON on an entry.
 
-ghost use Rattle.std.specs.Prelude.{◌≡◌, ◌++◌, List, codes, Ok, IfOk};
-ghost use Rattle.serde_json.specs.Data.{Data, array};
-ghost use Rattle.serde_json.specs.View.{items_of};
-ghost use Rattle.ti_json.specs.Printed.{Prints, data_tokens};
-ghost use Rattle.ti_tool.specs.Documents.{AreObjects, FindsIn, IsDocument, IsDocumentOfFile, key_of as the_key};
+ghost use Rattle.std.specs.Prelude.{◌≡◌, ◌++◌, ℕ, List, codes, Ok, IfOk};
+ghost use Rattle.ti_tool.specs.Documents.{FindsIn, IsDocument, IsDocumentOfFile, IsOfRows, IsVerdictOf};
 
 use crate::command::Answer;
-use crate::command::check::print_verdicts;
+use crate::command::check::write_verdicts;
 use std::alloc::{AllocError, Allocator};
 use ti_entry::Entry;
-use ti_json::{Printer, print_entry};
+use ti_json::write_entry;
 use ti_line::Document;
-use ti_report::{Trials, print_report};
+use ti_lint::LintOptions;
+use ti_report::{Trials, print_remarks, remarks_of, report_json};
+use ti_sink::Printer;
 
 /// A document with a newline after it.
 pub fn as_line<A: Allocator>(document: Vec<u8, A>) -> Result<Vec<u8, A>, AllocError>
@@ -23,27 +22,67 @@ pub fn as_line<A: Allocator>(document: Vec<u8, A>) -> Result<Vec<u8, A>, AllocEr
     Ok(line)
 }
 
-/// Prints a document on an entry that the bytes spell, and returns whether nothing is wrong.
-fn print_document<A: Allocator + Copy>(
-    printer: &mut Printer<A>,
+/// The findings on an entry that the bytes spell, in a line.
+fn findings<A: Allocator + Copy>(
     alloc: A,
     trials: &mut Trials<A>,
-    document: Document,
+    options: LintOptions,
     input: &[u8],
     entry: &Entry<'_>,
-) -> Result<bool, AllocError>
-    ensures finds { IfOk result (FindsIn document) }
-    ensures objects { IfOk result (λ passed. (objects : List Data)
-        × AreObjects document passed input.now entry.now objects
-        × Prints printer.old printer.new (data_tokens (array (items_of objects)))) }
+) -> Result<Answer<A>, AllocError>
+    ensures { IfOk result (λ a. IsDocument (Document.Findings options) a.passed input.now entry.now (Ok a.bytes.items)) }
+{
+    let remarks = remarks_of(alloc, trials, options, input, entry)?;
+    let bytes = as_line(report_json(alloc, remarks.as_slice())?)?;
+    let passed = remarks.is_empty();
+    Ok(Answer { bytes, passed })
+}
+
+/// The same of a file, in an object with its name.
+fn findings_of_file<A: Allocator + Copy>(
+    alloc: A,
+    trials: &mut Trials<A>,
+    options: LintOptions,
+    name: &str,
+    input: &[u8],
+    entry: &Entry<'_>,
+) -> Result<Answer<A>, AllocError>
+    ensures { IfOk result (λ a.
+        IsDocumentOfFile (Document.Findings options) name.now a.passed input.now entry.now a.bytes.items) }
+{
+    let remarks = remarks_of(alloc, trials, options, input, entry)?;
+    let passed = remarks.is_empty();
+    let mut sink = Printer::new(alloc);
+    sink.begin_object();
+    sink.text("file", name.as_bytes());
+    sink.key(key_of(Document::Findings(options)));
+    print_remarks(&mut sink, alloc, remarks.as_slice());
+    sink.end();
+    // Each call fits, as rows show.
+    if sink.is_misused() {
+        return Err(AllocError);
+    }
+    let bytes = as_line(sink.finish()?)?;
+    Ok(Answer { bytes, passed })
+}
+
+/// Writes a document of rows on an entry, and returns whether nothing is wrong.
+fn write_document<A: Allocator>(
+    printer: &mut Printer<A>,
+    document: Document,
+    entry: &Entry<'_>,
+) -> bool
+    requires { IsOfRows document }
+    ensures finds { FindsIn document result }
+    ensures verdict { IsVerdictOf document result entry.now }
 {
     match document {
         Document::Listing => {
-            print_entry(printer, entry);
-            Ok(true)
+            write_entry(printer, entry);
+            true
         }
-        Document::Verdicts(which) => Ok(print_verdicts(printer, which, entry)),
-        Document::Findings(options) => print_report(printer, alloc, trials, options, input, entry),
+        Document::Verdicts(which) => write_verdicts(printer, which, entry),
+        Document::Findings(_) => unreachable!(),
     }
 }
 
@@ -58,16 +97,17 @@ pub fn document_of<A: Allocator + Copy>(
     ensures finds { IfOk result (λ a. FindsIn document a.passed) }
     ensures due { IfOk result (λ a. IsDocument document a.passed input.now entry.now (Ok a.bytes.items)) }
 {
+    if let Document::Findings(options) = document {
+        return findings(alloc, trials, options, input, entry);
+    }
     let mut printer = Printer::new(alloc);
-    let passed = print_document(&mut printer, alloc, trials, document, input, entry)?;
-    let bytes = as_line(printer.into_bytes()?)?;
+    let passed = write_document(&mut printer, document, entry);
+    let bytes = as_line(printer.finish()?)?;
     Ok(Answer { bytes, passed })
 }
 
 /// Returns the key of a document in the object of its file.
-fn key_of(document: Document) -> &'static str
-    ensures { result.now ≡ the_key document }
-{
+fn key_of(document: Document) -> &'static str {
     match document {
         Document::Listing => "items",
         Document::Verdicts(_) => "verdicts",
@@ -87,12 +127,15 @@ pub fn document_of_file<A: Allocator + Copy>(
     ensures finds { IfOk result (λ a. FindsIn document a.passed) }
     ensures due { IfOk result (λ a. IsDocumentOfFile document name.now a.passed input.now entry.now a.bytes.items) }
 {
+    if let Document::Findings(options) = document {
+        return findings_of_file(alloc, trials, options, name, input, entry);
+    }
     let mut printer = Printer::new(alloc);
     printer.begin_object();
     printer.text("file", name.as_bytes());
     printer.key(key_of(document));
-    let passed = print_document(&mut printer, alloc, trials, document, input, entry)?;
-    printer.end_object();
-    let bytes = as_line(printer.into_bytes()?)?;
+    let passed = write_document(&mut printer, document, entry);
+    printer.end();
+    let bytes = as_line(printer.finish()?)?;
     Ok(Answer { bytes, passed })
 }

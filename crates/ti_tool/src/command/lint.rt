@@ -8,7 +8,7 @@ use std::alloc::{AllocError, Allocator};
 use ti_entry::Entry;
 use ti_escape::Color;
 use ti_lint::LintOptions;
-use ti_report::{Trials, push_report};
+use ti_report::{Trials, remarks_of, report_lines};
 
 /// The lines on an entry that the bytes spell, with something before the first of each finding.
 pub fn findings_of_entry<A: Allocator + Copy>(
@@ -23,10 +23,8 @@ pub fn findings_of_entry<A: Allocator + Copy>(
     ensures { IfOk result (λ a.
         IsLinted options color before.now a.passed input.now entry.now (Ok a.bytes.items)) }
 {
-    let mut bytes = Vec::new(alloc);
-    push_report(
-        alloc, &mut bytes, trials, options, color, before, input, entry,
-    )?;
-    let passed = bytes.is_empty();
+    let remarks = remarks_of(alloc, trials, options, input, entry)?;
+    let bytes = report_lines(alloc, color, before, remarks.as_slice())?;
+    let passed = remarks.is_empty();
     Ok(Answer { bytes, passed })
 }

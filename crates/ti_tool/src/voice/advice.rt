@@ -4,7 +4,6 @@ use crate::fault::ToolFault;
 use crate::item_name::{Names, item_called};
 use crate::notation::put_text;
 use crate::pasted::pasted_name;
-use crate::short_page::ShortPage;
 use crate::voice::sentence::{cap_sentence, entry_sentence, notation_sentence};
 use ti_base::GREATEST_WORD;
 use ti_cap::CapRefused;
@@ -12,6 +11,7 @@ use ti_entry::{EncodeFault, Entry, Refused, read};
 use ti_escape::{column, escape_into};
 use ti_line::{Action, EntryAction};
 use ti_names::{NameTable, find_short_or_long};
+use ti_sink::ShortPage;
 use ti_words::{Item, Kind, Number, Subject, Text};
 
 /// The most columns of a string that is shown.
@@ -27,7 +27,7 @@ fn write_pointed(page: &mut ShortPage, text: &[u8], place: usize) {
         page.put("  ");
         page.bytes(&room[..len]);
         page.put("\n  ");
-        page.spaces(column(text, place).min(MOST_COLUMNS as u128) as usize);
+        page.blanks(column(text, place).min(MOST_COLUMNS as u128) as usize);
         page.put("^\n")
     }
 }

@@ -1,12 +1,12 @@
 //! The line on a capability that `get`, or `trace` of an entry, does not find or that takes numbers.
 
 use crate::fault::ToolFault;
-use crate::short_page::ShortPage;
 use crate::voice::near::write_nearest;
 use crate::voice::request_line::write_only_numbers;
 use std::alloc::Allocator;
 use ti_entry::read;
 use ti_line::EntryAction;
+use ti_sink::ShortPage;
 
 /// Writes the line. The nearest names are those of the entry that was read.
 pub fn write_item_line<A: Allocator + Copy>(

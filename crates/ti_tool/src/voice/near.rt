@@ -4,13 +4,13 @@
 //! is that of optimal string alignment: a name is near if there is one edit at most for each three bytes of the word. All short and long
 //! names are gone over once, and those of the entry's extended capabilities.
 
-use crate::short_page::ShortPage;
 use crate::voice::known_as::{KNOWN_AS, is_called};
 use std::alloc::Allocator;
 use std::str::from_utf8;
 use strsim::osa_distance;
 use ti_entry::Entry;
 use ti_names::NameTable;
+use ti_sink::ShortPage;
 use ti_words::{Kind, Subject};
 
 /// How many indices there are of the kind that has most.

@@ -1,8 +1,8 @@
 //! Why the system does not give a file, or take a result.
 
-use crate::short_page::ShortPage;
 use std::alloc::Allocator;
 use std::io;
+use ti_sink::ShortPage;
 
 /// Whether a byte may stand in a terminal's name.
 fn is_name_byte(byte: u8) -> bool {

@@ -1,8 +1,8 @@
 //! The lines on requests that a command line can't make.
 
-use crate::short_page::ShortPage;
 use ti_line::LineFault;
 use ti_names::NameTable;
+use ti_sink::ShortPage;
 
 /// What is said of a word that may name a file.
 const ENTRY_HINT: &str = "; an entry is named by --entry FILE";

@@ -1,11 +1,11 @@
 //! How much `lint` looked at, and the line on it.
 
-use crate::short_page::ShortPage;
 use itoa::Buffer;
 use std::alloc::{AllocError, Allocator};
 use ti_entry::read;
 use ti_lint::LintOptions;
 use ti_report::{Trials, count_findings, coverage_of};
+use ti_sink::ShortPage;
 
 /// How much was looked at, and how much found.
 #[derive(Clone, Copy)]

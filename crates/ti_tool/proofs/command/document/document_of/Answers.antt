@@ -1,12 +1,10 @@
-use Rattle.std.proofs.Common.{◌∙◌, ◌++◌, ap}
-use Rattle.std.specs.Prelude.{codes}
-use Rattle.serde_json.specs.Data.{array}
-use Rattle.serde_json.specs.View.{items_of}
-use Rattle.ti_json.proofs.TokensLemmas.{document}
+use Rattle.ti_tool.proofs.DocumentLemmas.{rows_text}
 use Rattle.ti_tool.proofs.command.document.document_of.Goals as goal
 
 pub returns-clause-due : goal.returns-clause-due
 returns-clause-due g c =
-    let (objects, are, printed) = c.in_ok-passed.ensures.objects in
-    let text = document (array (items_of objects)) c.new-printer.result c.print_document.new.printer _ c.new-printer.ensures.tokens printed c.in_ok-into_bytes.ensures.printed in
-    (objects, are, c.in_ok-bytes.ensures ∙ ap (λ x. x ++ codes "\n") text)
+    let text = c.in_ok-finish.field-0.items in (
+      text,
+      rows_text c.args.document c.write_document-passed.result c.args.input.now c.args.entry.now text c.write_document-passed.ensures.verdict c.in_ok-finish.ensures.printable,
+      c.in_ok-bytes.ensures,
+    )

@@ -1,10 +1,14 @@
-use Rattle.std.proofs.Common.{◌≡◌, ◌==◌, ◌∙◌, ap, arith, length, sym, vec_len}
-use Rattle.ti_tool.proofs.FileLemmas.{linted}
+use Rattle.std.proofs.Common.{◌≡◌, ◌==◌, ◌∙◌, ap, arith, length, subst, sym, vec_len}
+use Rattle.ti_report.specs.Blocks.{AreBlocks}
 use Rattle.ti_tool.proofs.command.lint.findings_of_entry.Goals as goal
 
 pub returns : goal.returns
 returns g c =
-    let bytes = c.push_report.new.out in
-    let len : length bytes.items ≡ vec_len bytes = omega (arith, bytes.ok) in
-    linted c.args.options c.args.color c.args.before.now c.args.input.now c.args.entry.now c.new-bytes.result.items bytes.items c.is_empty-passed.result
-    c.new-bytes.ensures.items c.in_ok-push_report.ensures.lines (c.is_empty-passed.ensures ∙ ap (λ n. n == 0) (sym len))
+    let remarks = c.in_ok-remarks.remarks in
+    let lines = c.in_ok-bytes.bytes.items in
+    let slice = c.as_slice.ensures.value in
+    let len : length remarks.items ≡ vec_len remarks = omega (arith, remarks.ok) in
+    let told = subst (λ rs. AreBlocks c.args.before.now rs lines) slice c.in_ok-bytes.ensures.told in (
+      (remarks.items, c.in_ok-remarks.ensures.remarks, told, c.in_ok-bytes.ensures.printable),
+      c.is_empty-passed.ensures ∙ ap (λ n. n == 0) (sym len) ∙ sym (c.in_ok-bytes.ensures.none ∙ ap (λ rs. length rs == 0) slice),
+    )
