@@ -1,5 +1,13 @@
 -- Why an output is not sent.
-use Rattle.std.proofs.Common.{◌≡◌, ◌≤◌, ◌+◌, ◌-◌, ◌↔◌, ◌∙◌, ℕ, suc, ℤ, Bool, true, false, List, [], ◌∷◌, Result, Err, length, inl, inr, ◌⊎◌, refl, ap, sym, subst, arith, eqb}
+use Rattle.std.proofs.Common.{◌≡◌, ◌≤◌, ◌<◌, ◌+◌, ◌-◌, ◌*◌, ◌%◌, ◌^◌, ◌↔◌, ◌∙◌, ℕ, suc, ℤ, Bool, true, false, List, [], ◌∷◌, Result, Err, length, take, map, get_or, inl, inr, ◌⊎◌, refl, ap, sym, subst, arith, eqb, cond, bit_and, zero-add, length-take-le}
+use Rattle.std.proofs.lemmas.Bool.{OnTrue_from, eqb-true}
+use Rattle.std.proofs.lemmas.List.{get_or-map, get_or-take}
+use Rattle.std.proofs.lemmas.Nat.Bits.{bit_at-zero}
+use Rattle.std.proofs.lemmas.Simd.{bit_mask_l, get_or-chunk, length-chunk}
+use Rattle.std.specs.Bool.{OnTrue}
+use Rattle.std.specs.Int.{bit_at}
+use Rattle.std.specs.Simd.Lanes.{chunk, mask_l}
+use Rattle.memchr.proofs.lemmas.BitLemmas.{bit_at_low_kept, shl_one}
 use Rattle.memchr.specs.Find.{Nowhere, Passes, is_byte}
 use Rattle.ti_expand.specs.Expands.{IsBytesFault}
 use Rattle.ti_expand.specs.declared.fault.BytesFault.{BytesFault}
@@ -94,3 +102,37 @@ pub unmarked_sent : (output padded : List ℕ) (room number need : ℕ) → padd
     → ¬ IsUnsent output padded room number need
 unmarked_sent output padded room number need same enough few (inl (above, n, m)) = omega (arith, above, few, ap length same)
 unmarked_sent output padded room number need same enough few (inr (low, small, n, m)) = omega (arith, small, enough, ap length same)
+
+-- ---- a short text at the front of a room
+
+-- a bit that is not set
+unset : (b : Bool) → ◌≡◌ {A = ℕ} (cond b 1 0) 0 → b ≡ false
+unset true set = absurd (omega arith)
+unset false clear = refl
+
+-- if there is no `$` before its end
+unmarked_front : (room : List ℕ) (end : ℕ) (s : Setting) → end ≤ length room → ((k : ℕ) → k < end → is_byte 36 (get_or room k 0) ≡ false) → padded_text (take end room) s ≡ take end room
+unmarked_front room end s within none =
+    unmarked (take end room) s (λ k low high here.
+    let near : k < end = omega (arith, high, length-take-le end room within) in
+    absurd (cc (here, ap (is_byte 36) (get_or-take end room k 0 near), none k near)))
+
+-- bit k of the mask of the first bytes is set if byte k is a `$`
+bit_of_dollar : (room : List ℕ) (size k : ℕ) → size ≤ length room → k < size → bit_at (mask_l (map (is_byte 36) (chunk 0 size room))) k ≡ cond (is_byte 36 (get_or room k 0)) 1 0
+bit_of_dollar room size k within near =
+    let front = chunk 0 size room in
+    let there : k < length front = omega (arith, length-chunk 0 size room (omega arith)) in
+    let byte : get_or front k 0 ≡ get_or room k 0 = get_or-chunk 0 size room k 0 near ∙ ap (λ j. get_or room j 0) (zero-add k) in
+    bit_mask_l (map (is_byte 36) front) k ∙ ap (λ b. cond b 1 0) (get_or-map (is_byte 36) front k 0 false there ∙ ap (is_byte 36) byte)
+
+-- if no bit of it is set before the end of the text, by the test in the code
+pub unmarked_by_mask : (room : List ℕ) (size end mask : ℕ) → size ≤ length room → size < 64 → end ≤ size → mask ≡ mask_l (map (is_byte 36) (chunk 0 size room))
+    → OnTrue (eqb (bit_and mask (1 * 2 ^ end % 2 ^ 64 - 1)) 0) ((s : Setting) → padded_text (take end room) s ≡ take end room)
+unmarked_by_mask room size end mask within most few is =
+    let P : Type 0 = (s : Setting) → padded_text (take end room) s ≡ take end room in
+    let one = shl_one end (omega arith) in
+    OnTrue_from (eqb (bit_and mask (1 * 2 ^ end % 2 ^ 64 - 1)) 0) P (λ none s.
+    let low : bit_and mask (2 ^ end - 1) ≡ 0 = ap (λ x. bit_and mask (x - 1)) (sym one) ∙ eqb-true _ _ none in
+    unmarked_front room end s (omega arith) (λ k near.
+    unset (is_byte 36 (get_or room k 0))
+    (sym (bit_of_dollar room size k within (omega arith)) ∙ ap (λ m. bit_at m k) (sym is) ∙ sym (bit_at_low_kept mask end k near) ∙ ap (λ m. bit_at m k) low ∙ bit_at-zero k)))

@@ -2,7 +2,7 @@
 //!
 //! The output is written at the front of the room, and padded after it; then the padded text takes its place.
 
-ghost use Rattle.std.specs.Prelude.{◌≡◌, ◌≤◌, ◌<◌, ◌+◌, ◌-◌, ◌⊎◌, ◌↔◌, ℕ, Err, length, take, IfOk, OnErr};
+ghost use Rattle.std.specs.Prelude.{◌≡◌, ◌≤◌, ◌<◌, ◌+◌, ◌-◌, ◌⊎◌, ◌↔◌, ℕ, Err, length, drop, take, IfOk, OnErr};
 ghost use Rattle.std.specs.Bool.{OnTrue};
 ghost use Rattle.ti_base.specs.Limits.{most_padded_bytes};
 ghost use Rattle.ti_cap.specs.Refusal.{IsFaultless};
@@ -18,6 +18,7 @@ use crate::expansion::{Parameter, PlacedRun, ti_expand};
 use crate::faults::{BAD_PADDING, DONE, OUT_TOO_SMALL, TOO_MANY_PARAMETERS, TOO_MUCH};
 use crate::padding::{GivenPadding, padding_of, told_length};
 use memchr::memchr;
+use std::simd::prelude::*;
 use ti_base::MOST_PADDED_BYTES;
 use ti_expand::{Run, Vars};
 use ti_pad::{PadIntoFault, Padding, pad_into};
@@ -52,6 +53,20 @@ fn no_run() -> PlacedRun {
     PlacedRun { counts, place: 0 }
 }
 
+/// Moves bytes of a room to its front. The bytes after them there may change.
+#[inline(always)]
+fn move_to_front(out: &mut [u8], from: usize, count: usize)
+    requires { from + count ≤ length out.old }
+    ensures { take count out.new ≡ take count (drop from out.old) }
+{
+    if count <= 16 && out.len() - from >= 16 {
+        let bytes = u8x16::from_slice(&out[from..]);
+        bytes.copy_to_slice(out);
+        return;
+    }
+    out.copy_within(from..from + count, 0);
+}
+
 /// Pads the text at the front of a room, which the padded text replaces. After a fault the room is as before.
 fn pad_at_front(out: &mut [u8], written: usize, padding: &Padding) -> Result<usize, PadIntoFault>
     requires { written ≤ length out.old }
@@ -69,7 +84,7 @@ fn pad_at_front(out: &mut [u8], written: usize, padding: &Padding) -> Result<usi
         Ok(length) => length,
         Err(fault) => return Err(fault),
     };
-    out.copy_within(written..written + length, 0);
+    move_to_front(out, written, length);
     Ok(length)
 }
 
@@ -84,7 +99,23 @@ fn is_unmarked(text: &[u8]) -> bool
     }
 }
 
+/// The same of an output of at most 16 bytes, at which one look is enough. The bytes of the room after it may be any, and are not
+/// tested: C need not have written them.
+#[inline(always)]
+fn is_short_unmarked(out: &[u8], written: usize) -> bool
+    requires room { 16 ≤ length out.now }
+    requires short { written ≤ 16 }
+    ensures { OnTrue result ((setting : Setting)
+        → padded_text (take written out.now) setting ≡ take written out.now) }
+{
+    let dollars = u8x16::from_slice(out)
+        .simd_eq(u8x16::splat(b'$'))
+        .to_bitmask();
+    dollars & ((1 << written) - 1) == 0
+}
+
 /// Whether the output at the front of a room is what is sent, for sure: no mark is in it, and there is room for it once more.
+/// Nearly all outputs have at most 16 bytes.
 #[inline(always)]
 fn is_sent_as_it_is(out: &[u8], written: usize) -> bool
     requires { written ≤ length out.now }
@@ -93,6 +124,9 @@ fn is_sent_as_it_is(out: &[u8], written: usize) -> bool
     ensures same { OnTrue result ((setting : Setting)
         → padded_text (take written out.now) setting ≡ take written out.now) }
 {
+    if written <= 16 && out.len() >= 32 {
+        return is_short_unmarked(out, written);
+    }
     if written > out.len() - written {
         return false;
     }
@@ -102,8 +136,42 @@ fn is_sent_as_it_is(out: &[u8], written: usize) -> bool
     is_unmarked(&out[..written])
 }
 
+/// Pads the output at the front of a room, as `put_padded` does. It is a call, so that an output without a mark takes no step for it.
+#[inline(never)]
+fn put_marked(out: &mut [u8], written: usize, padding: &Padding, sent: &mut Sent) -> u32
+    requires { written ≤ length out.old }
+    ensures answer { (result ≡ done) ⊎ IsUnsent (take written out.old)
+        (padded_text (take written out.old) padding.now) (length out.old)
+        result sent.new.place }
+    ensures only { (number need : ℕ) → IsUnsent (take written out.old)
+        (padded_text (take written out.old) padding.now) (length out.old) number need
+        → (result ≡ number) × (sent.new.place ≡ need) }
+    ensures place { (result ≡ done) ⊎ (sent.new ≡ record sent.old { place = sent.new.place }) }
+    ensures untold { result ≡ done → sent.new.place ≡ sent.old.place }
+    ensures text { result ≡ done → take sent.new.length out.new
+        ≡ padded_text (take written out.old) padding.now }
+    ensures len { result ≡ done → sent.new.length
+        ≡ length (padded_text (take written out.old) padding.now) }
+{
+    match pad_at_front(out, written, padding) {
+        Ok(length) => {
+            sent.length = length;
+            DONE
+        }
+        Err(PadIntoFault::TooMuch { need }) => {
+            sent.place = told_length(need);
+            TOO_MUCH
+        }
+        Err(PadIntoFault::OutTooSmall { need }) => {
+            sent.place = written + need as usize;
+            OUT_TOO_SMALL
+        }
+    }
+}
+
 /// Pads the output at the front of a room, and returns 0 with the length of the padded text, which replaces it; or the number of
 /// the first fault with the place, and the room is as before.
+#[inline(always)]
 pub(crate) fn put_padded(out: &mut [u8], written: usize, padding: &Padding, sent: &mut Sent) -> u32
     requires { written ≤ length out.old }
     ensures answer { (result ≡ done) ⊎ IsUnsent (take written out.old)
@@ -123,20 +191,7 @@ pub(crate) fn put_padded(out: &mut [u8], written: usize, padding: &Padding, sent
         sent.length = written;
         return DONE;
     }
-    match pad_at_front(out, written, padding) {
-        Ok(length) => {
-            sent.length = length;
-            DONE
-        }
-        Err(PadIntoFault::TooMuch { need }) => {
-            sent.place = told_length(need);
-            TOO_MUCH
-        }
-        Err(PadIntoFault::OutTooSmall { need }) => {
-            sent.place = written + need as usize;
-            OUT_TOO_SMALL
-        }
-    }
+    put_marked(out, written, padding, sent)
 }
 
 /// Expands a capability, pads the output, and returns 0 with the length of what is to be sent, which stands at the front of the
