@@ -111,6 +111,8 @@ class Trial:
         """The module for Python: the examples in it, its own test, and the example that uses it."""
         if self.can_try("the module for Python", "python3"):
             places = {"PYTHONPATH": self.module, "LD_LIBRARY_PATH": self.library, "PYTHONDONTWRITEBYTECODE": "1"}
+            taken = "_ti" if (self.module / "mogyarsu/_ti.abi3.so").exists() else "_by_ctypes"
+            self.writes("the module that is taken", f"mogyarsu.{taken}", sys.executable, "-c", "import mogyarsu; print(mogyarsu.expand.__module__)", **places)
             self.goes_well("examples of the module", sys.executable, "-c", DOCTEST, **places)
             self.goes_well("test of the module", sys.executable, "python/test.py", **places)
             self.writes("tput in Python", CUP, sys.executable, "examples/tput.py", *CALL, **places)

@@ -65,6 +65,12 @@ look_at_page() {
     [ ! -f "$root/LICENSE" ] || folders+=(LICENSE)
 }
 
+# Looks at what the module for Python is made of: the library, and beside it what is compiled over it.
+look_at_module() {
+    look_at ti_c
+    folders+=(include/ti.h python/lp64.h python/mogyarsu/_ti.c)
+}
+
 # The sum over the sources of the crates that are looked at: over their lines of crates.txt, and over the names and sums of the
 # files in their src, specs and proofs.
 sum_of_sources() {
@@ -231,6 +237,15 @@ choose_page() {
     page= why="it was not made here"
     [ -z "${TI_PROVED_ONLY:-}" ] && fits page.html || return
     page=$dist/page.html
+}
+
+# Sets `module` to the compiled module for Python of this machine; it is empty, and the status not 0, if dist/ has none of these
+# sources. It is not proved.
+choose_module() {
+    look_at_module
+    module=
+    [ -z "${TI_PROVED_ONLY:-}" ] && fits _ti.abi3.so || return
+    module=$dist/_ti.abi3.so
 }
 
 # Says once at a terminal that the program is that of dist/.
