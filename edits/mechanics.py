@@ -46,14 +46,14 @@ def left_lines(crate: str, file: str) -> frozenset[str]:
     return frozenset(maker().bare("\n".join(lines_of(crate, file))).split("\n"))
 
 
-def functions_in(crate: str, file: str) -> list[Function]:
-    """The functions of a file of presentation."""
+def functions_in(crate: str, file: str, are_all: bool = False) -> list[Function]:
+    """The functions of a file that are of presentation, or all."""
     lines, found = lines_of(crate, file), {}
     for at, head in enumerate(map(HEADER.match, lines)):
         end = f"{head[1]}}}" if head else None
         if head and end in lines[at:]:
             function = function_at(crate, file, lines.index(end, at))
-            if function and is_presented(crate, file, function.path[-1]):
+            if function and (are_all or is_presented(crate, file, function.path[-1])):
                 found[function.name] = function
     return list(found.values())
 

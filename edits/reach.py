@@ -6,7 +6,8 @@ import shutil
 import subprocess
 
 from bodies import Function, lines_of
-from mechanics import left_lines
+from checks.crates import folder_of
+from mechanics import functions_in, left_lines
 from rows import OUT, STAGES, build
 from schema import Crate, opening_of
 from trial import Stopped
@@ -32,6 +33,8 @@ pub mod reach {
 }
 """
 NOTE, NOTED = "REACHED_PLACE", "crate::kit::reach::reached"
+# The crate of the sinks, whose tests have bytes escaped, and what escapes one.
+SINKS, ESCAPE = "ti_sink", "octal("
 BLOCK = re.compile(r"(?:\b(?:if|else|for|while|loop)\b.*|=>|\|[\w, &()]*\|) \{$")
 ARM = re.compile(r"^( *)((?:[^=]|=(?!>))+?) => ([^{].*),$")
 
@@ -76,10 +79,27 @@ def names_of(places: list[tuple[str, Function, int]]) -> list[str]:
     return found
 
 
-def unreached(functions: list[tuple[str, Function]]) -> list[str]:
-    """The names of the places of functions that no row reaches."""
+def escaping() -> list[tuple[str, Function]]:
+    """The functions of the sinks that escape a byte, each with its crate."""
+    found: list[tuple[str, Function]] = []
+    for path in sorted((folder_of(SINKS) / "src").glob("*.rt")):
+        file = f"src/{path.name}"
+        lines = lines_of(SINKS, file)
+        found += [(SINKS, one) for one in functions_in(SINKS, file, True) if any(ESCAPE in line for line in lines[one.first + 1 : one.last])]
+    return found
+
+
+def escapes(crate: str, function: Function, at: int) -> bool:
+    """Whether a byte is escaped at a place."""
+    return crate == SINKS and any(ESCAPE in line for line in lines_of(crate, function.file)[at + 1 : min(at + 3, function.last)])
+
+
+def unreached(functions: list[tuple[str, Function]]) -> tuple[list[str], list[str]]:
+    """The names of the places of functions that no row reaches, and of those at which the sinks escape a byte of a row, other than of
+    their own rows."""
     from own_tests import OF_WORDING
 
+    functions = [*functions, *(one for one in escaping() if one not in functions)]
     shutil.rmtree(OUT / "reach", ignore_errors=True)
     crate = Crate(OUT / "reach")
     places: list[tuple[str, Function, int]] = []
@@ -98,9 +118,14 @@ def unreached(functions: list[tuple[str, Function]]) -> list[str]:
     if not built.program:
         raise Stopped(f"the crate with notes does not compile: {built.errors[0]}")
     notes = OUT / "notes"
-    notes.unlink(missing_ok=True)
-    for which in STAGES:
-        words = [built.program, *which, "--skip", OF_WORDING, "-q"]
-        subprocess.run(words, env={**os.environ, NOTES: str(notes)}, stdout=subprocess.DEVNULL, check=False)
-    seen = set(map(int, notes.read_text().split())) if notes.exists() else set()
-    return [name for at, name in enumerate(names_of(places)) if at not in seen]
+
+    def seen(*skipped: str) -> set[int]:
+        notes.unlink(missing_ok=True)
+        for which in STAGES:
+            words = [built.program, *which, *(word for name in (OF_WORDING, *skipped) for word in ("--skip", name)), "-q"]
+            subprocess.run(words, env={**os.environ, NOTES: str(notes)}, stdout=subprocess.DEVNULL, check=False)
+        return set(map(int, notes.read_text().split())) if notes.exists() else set()
+
+    names, reached, by_others = names_of(places), seen(), seen("sink")
+    missed = [name for at, name in enumerate(names) if at not in reached]
+    return missed, [name for at, name in enumerate(names) if at in by_others and escapes(*places[at])]
