@@ -1,5 +1,5 @@
 #!/usr/bin/env python3
-"""The explanations of findings, in ti_report/src/forms/explanations.rt: the paragraphs of ti-findings(7), without its marks.
+"""The explanations of findings, in ti_forms/src/explanations.rt: the paragraphs of ti-findings(7), without its marks.
 
     docs/explanations.py [--write]
 
@@ -14,7 +14,7 @@ sys.dont_write_bytecode = True
 sys.path.insert(0, str(Path(__file__).resolve().parent.parent))
 from checks.machine import ROOT
 
-FILE = ROOT / "crates/ti_report/src/forms/explanations.rt"
+FILE = ROOT / "crates/ti_forms/src/explanations.rt"
 ONLY_ALL = "Only with \\-\\-all"
 WIDTH = 78
 

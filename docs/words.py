@@ -20,8 +20,8 @@ LITERAL = re.compile(r'"((?:[^"\\]|\\.)*)"', re.S)
 VOICE = ["advice", "explanation", "item_line", "reason", "request_line", "sentence", "tally"]
 # Sources whose literals people read, those with a space in them; comments and contracts apart.
 SOURCES = [
-    "crates/ti_line/src/help.rt", "crates/ti_line/src/command.rt", "crates/ti_line/src/tip.rt", "crates/ti_report/src/forms/table.rt",
-    "crates/ti_report/src/forms/sentence.rt", "crates/ti_report/src/forms/which.rt", "crates/ti_report/src/forms/explanations.rt",
+    "crates/ti_line/src/help.rt", "crates/ti_line/src/command.rt", "crates/ti_line/src/tip.rt", "crates/ti_rules/src/table.rt",
+    "crates/ti_forms/src/sentence.rt", "crates/ti_forms/src/which.rt", "crates/ti_forms/src/explanations.rt",
     *(f"crates/ti_tool/src/voice/{name}.rt" for name in VOICE),
     "crates/ti_tool/src/fault_line.rt", "crates/ti_c/src/messages.rt", "rust/library/src/message.rs",
 ]

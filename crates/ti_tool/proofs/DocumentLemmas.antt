@@ -13,10 +13,10 @@ use Rattle.ti_names.specs.AllNames.{front}
 use Rattle.ti_words.specs.Value.{EntryValue}
 use Rattle.ti_sink.proofs.PrintedLemmas.{rest_after}
 use Rattle.ti_sink.specs.Printed.{StaysFront}
-use Rattle.ti_report.specs.Blocks.{HaveObjects}
-use Rattle.ti_report.specs.Lines.{Adds}
-use Rattle.ti_report.specs.Remarks.{Remark}
-use Rattle.ti_report.specs.Reports.{IsReport}
+use Rattle.ti_forms.specs.Blocks.{HaveObjects}
+use Rattle.ti_rules.specs.Lines.{Adds}
+use Rattle.ti_rules.specs.Remarks.{Remark}
+use Rattle.ti_rules.specs.Reports.{IsReport}
 use Rattle.ti_tool.specs.Documents.{IsDocumentOfFile, IsInObject, IsTextOf, IsVerdictOf, StandsIn}
 use Rattle.ti_tool.specs.Voice.{IsPage}
 use Rattle.ti_tool.proofs.PrintableLemmas.{line, same_page}

@@ -7,9 +7,9 @@ use Rattle.ti_line.specs.declared.options.Document.{Document}
 use Rattle.ti_line.specs.declared.options.Document.TheVariants as documents
 use Rattle.ti_lint.specs.declared.lint_options.LintOptions.{LintOptions}
 use Rattle.ti_escape.specs.Laws.{is_printable}
-use Rattle.ti_report.specs.Blocks.{HaveObjects}
-use Rattle.ti_report.specs.Remarks.{Remark}
-use Rattle.ti_report.specs.Reports.{IsReport}
+use Rattle.ti_forms.specs.Blocks.{HaveObjects}
+use Rattle.ti_rules.specs.Remarks.{Remark}
+use Rattle.ti_rules.specs.Reports.{IsReport}
 use Rattle.ti_tool.specs.declared.fault.ToolFault.{ToolFault}
 use Rattle.ti_tool.specs.Verdicts.{IsVerdict}
 use Rattle.ti_tool.specs.Voice.{IsPage}

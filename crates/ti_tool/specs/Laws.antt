@@ -22,7 +22,7 @@ WideAndBack = (input wide back : List ℕ) (v : EntryValue) → Spells input v �
     → back ≡ canonical v
 
 -- what strings make a terminal do is followed along all paths, which finds all and may find more: so a report is not one by what it
--- means, but for the same findings on that (`reports_are_one` of ti_report); what documents of JSON and traces say is shown by rows; and
+-- means, but for the same findings on that (`reports_are_one` of ti_rules); what documents of JSON and traces say is shown by rows; and
 -- each other result is one
 abbrev pub IsOneOf : EntryAction → Type 0
 IsOneOf (of_entry.Lint options color) = ⊥

@@ -22,7 +22,7 @@ use Rattle.ti_line.specs.Options.{list_options, naming_of, output_of, output_byt
 pub use Rattle.ti_tool.specs.Expansions.{IsExpansion, IsPadded, IsUnexpanded}
 use Rattle.ti_escape.specs.declared.color.Color.{Color}
 use Rattle.ti_lint.specs.declared.lint_options.LintOptions.{LintOptions}
-use Rattle.ti_report.specs.Reports.{AreLines}
+use Rattle.ti_forms.specs.Blocks.{AreLines}
 use Rattle.ti_tool.specs.Got.{IsGot}
 pub use Rattle.ti_tool.specs.Traces.{IsTraced, IsTracedOf}
 use Rattle.ti_tool.specs.Sources.{IsDueForSource}

@@ -21,7 +21,7 @@ use std::alloc::Allocator;
 use std::io::{Read, Write};
 use ti_entry::{EntryReader, ReadStop, read_from};
 use ti_line::{Action, CapabilityAction, EntryAction};
-use ti_report::Trials;
+use ti_rules::Trials;
 
 /// The most characters of an input that are kept for the advice: four for each column of a string that is shown, and a newline.
 const MOST_KEPT: usize = 1025;

@@ -31,7 +31,7 @@ use ti_entry::Entry;
 use ti_expand::Value;
 use ti_line::{CapabilityResult, EntryAction};
 use ti_listing::lines_of;
-use ti_report::Trials;
+use ti_rules::Trials;
 
 /// A result, and whether it is of nothing that `check` or `lint` found and of no flag that is not set.
 #[derive(Drop)]

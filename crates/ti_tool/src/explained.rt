@@ -14,7 +14,7 @@ use crate::voice::{write_explanations, write_unknown};
 use std::alloc::Allocator;
 use std::io::Write;
 use ti_escape::Color;
-use ti_report::is_explained;
+use ti_forms::is_explained;
 use ti_sink::{Page, ShortPage};
 
 /// The first of some words that no finding has.

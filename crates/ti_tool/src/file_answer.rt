@@ -21,7 +21,7 @@ use ti_escape::{Color, push_notation};
 use ti_line::{EntryAction, ListOptions, NameForm, Naming, Verdicts};
 use ti_lint::LintOptions;
 use ti_listing::lines_of;
-use ti_report::Trials;
+use ti_rules::Trials;
 
 /// A file that was named.
 #[derive(Clone, Copy, Debug)]

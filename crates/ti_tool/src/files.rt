@@ -19,7 +19,7 @@ use std::alloc::{AllocError, Allocator};
 use std::io::{Read, Write};
 use ti_line::EntryAction;
 use ti_pad::write_out;
-use ti_report::Trials;
+use ti_rules::Trials;
 
 /// The greater of two statuses.
 fn greater(one: u8, other: u8) -> u8

@@ -10,7 +10,7 @@ pub fn wide_and_back()
 {}
 
 /// For a request and the bytes that are read there is at most one result or fault, and it says that something is wrong or that
-/// nothing is, but for traces and documents of JSON, which rows show, and for reports: of these `reports_are_one` of ti_report speaks. So
+/// nothing is, but for traces and documents of JSON, which rows show, and for reports: of these `reports_are_one` of ti_rules speaks. So
 /// it is of what is read of standard input, if memory is not refused.
 pub fn results_are_one()
     ensures one { HasOneAnswer }

@@ -42,4 +42,4 @@ pub use store::{Files, FoundFile, NoStore, Store, one_file, read_contents};
 pub use terminals::Terminals;
 pub use ti_escape::Color;
 pub use ti_line::{Destination, WordFault, read_params};
-pub use ti_report::Trials;
+pub use ti_rules::Trials;

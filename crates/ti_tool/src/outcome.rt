@@ -20,7 +20,7 @@ use std::io;
 use std::io::{ErrorKind, Read};
 use ti_line::EntryAction;
 use ti_lint::LintOptions;
-use ti_report::Trials;
+use ti_rules::Trials;
 use ti_sink::ShortPage;
 
 /// The request on each file.

@@ -10,7 +10,7 @@ use std::io::Write;
 use ti_line::{Action, Document, EntryAction};
 use ti_lint::LintOptions;
 use ti_pad::write_out;
-use ti_report::Trials;
+use ti_rules::Trials;
 use ti_sink::ShortPage;
 
 /// The options of `lint`, if a summary is wanted of it.

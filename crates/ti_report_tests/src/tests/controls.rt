@@ -4,7 +4,7 @@ use super::entries::{add_lines, lines_on, look_of};
 use crate::tests::check_rows;
 use std::str::from_utf8;
 use ti_fixtures::{Finds, Given, Unfound, show};
-use ti_report::Trials;
+use ti_rules::Trials;
 
 /// The words of findings on what strings make a terminal do.
 const WORDS: &[&'static str] = &[

@@ -5,8 +5,9 @@ use std::str::from_utf8;
 use ti_draft::{Draft, encode};
 use ti_entry::read;
 use ti_fixtures::{Said, Unfound, bytes_of, item_of};
+use ti_forms::{Color, report_lines};
 use ti_names::NameTable;
-use ti_report::{Color, Level, LintOptions, Trials, remarks_of, report_lines};
+use ti_rules::{Level, LintOptions, Trials, remarks_of};
 use ti_words::{Flag, Kind, Number, Text, Width};
 
 /// Returns the value of a capability of terminfo(5) in the items.

@@ -8,7 +8,7 @@ use ti_lint::{
     is_meant_to_expand, stored_by, toggling_pairs, undoing_pairs, unused_parameters,
 };
 use ti_names::{Class, NameTable, class_of};
-use ti_report::Finding;
+use ti_rules::Finding;
 use ti_words::Kind;
 
 /// Names of texts with what they are. In micro mode a text has the parameters of the text that it is like.

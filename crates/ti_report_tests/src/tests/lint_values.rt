@@ -4,7 +4,7 @@ use super::entries::add_lines;
 use crate::tests::check_rows;
 use std::alloc::Global;
 use ti_fixtures::{Finds, Given, Unfound, only_if};
-use ti_report::Trials;
+use ti_rules::Trials;
 
 /// Texts that send what they should not for some value, with the first lines on the entry.
 const MISTAKEN: &str = r"

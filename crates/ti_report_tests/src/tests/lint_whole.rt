@@ -5,7 +5,7 @@ use crate::tests::check_rows;
 use ti_entry::read;
 use ti_fixtures::entries::{EXTENDED, changed};
 use ti_fixtures::{Finds, Given, Unfound, show_debug};
-use ti_report::coverage_of;
+use ti_rules::coverage_of;
 
 /// Adds the lines on an entry as a whole, which come after those on its texts.
 fn add_whole(found: &mut Vec<u8>, file: &[u8]) -> Result<(), Unfound> {

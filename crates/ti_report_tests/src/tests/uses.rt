@@ -1,5 +1,5 @@
 //! A caller's first program for each library crate, which its README shows.
 
+mod forms;
 mod lint;
-mod report;
 mod values;

@@ -7,10 +7,11 @@ use crate::command::Answer;
 use crate::command::check::write_verdicts;
 use std::alloc::{AllocError, Allocator};
 use ti_entry::Entry;
+use ti_forms::{print_remarks, report_json};
 use ti_json::write_entry;
 use ti_line::Document;
 use ti_lint::LintOptions;
-use ti_report::{Trials, print_remarks, remarks_of, report_json};
+use ti_rules::{Trials, remarks_of};
 use ti_sink::Printer;
 
 /// A document with a newline after it.

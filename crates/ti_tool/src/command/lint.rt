@@ -7,8 +7,9 @@ use crate::command::Answer;
 use std::alloc::{AllocError, Allocator};
 use ti_entry::Entry;
 use ti_escape::Color;
+use ti_forms::report_lines;
 use ti_lint::LintOptions;
-use ti_report::{Trials, remarks_of, report_lines};
+use ti_rules::{Trials, remarks_of};
 
 /// The lines on an entry that the bytes spell, with something before the first of each finding.
 pub fn findings_of_entry<A: Allocator + Copy>(

@@ -4,7 +4,7 @@ use itoa::Buffer;
 use std::alloc::{AllocError, Allocator};
 use ti_entry::read;
 use ti_lint::LintOptions;
-use ti_report::{Trials, count_findings, coverage_of};
+use ti_rules::{Trials, count_findings, coverage_of};
 use ti_sink::ShortPage;
 
 /// How much was looked at, and how much found.

@@ -1,5 +1,5 @@
 use Rattle.std.proofs.Common.{◌≡◌, ◌==◌, ◌∙◌, ap, arith, length, subst, sym, vec_len}
-use Rattle.ti_report.specs.Blocks.{HaveObjects}
+use Rattle.ti_forms.specs.Blocks.{HaveObjects}
 use Rattle.ti_tool.proofs.command.document.findings.Goals as goal
 
 pub returns : goal.returns

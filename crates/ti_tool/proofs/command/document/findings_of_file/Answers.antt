@@ -1,7 +1,7 @@
 use Rattle.std.proofs.Common.{◌≡◌, ◌==◌, ◌∙◌, ap, arith, length, subst, sym, vec_len}
-use Rattle.ti_report.specs.Blocks.{HaveObjects}
-use Rattle.ti_report.specs.Lines.{Adds}
-use Rattle.ti_report.proofs.BlocksLemmas.{back}
+use Rattle.ti_forms.specs.Blocks.{HaveObjects}
+use Rattle.ti_rules.specs.Lines.{Adds}
+use Rattle.ti_forms.proofs.BlocksLemmas.{back}
 use Rattle.ti_tool.proofs.DocumentLemmas.{findings_of_file}
 use Rattle.ti_tool.proofs.command.document.findings_of_file.Goals as goal
 

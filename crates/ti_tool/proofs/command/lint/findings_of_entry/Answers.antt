@@ -1,5 +1,5 @@
 use Rattle.std.proofs.Common.{◌≡◌, ◌==◌, ◌∙◌, ap, arith, length, subst, sym, vec_len}
-use Rattle.ti_report.specs.Blocks.{AreBlocks}
+use Rattle.ti_forms.specs.Blocks.{AreBlocks}
 use Rattle.ti_tool.proofs.command.lint.findings_of_entry.Goals as goal
 
 pub returns : goal.returns

@@ -1,7 +1,0 @@
-use Rattle.ti_report.proofs.FirstPlaceLemmas.{tabset_is}
-use Rattle.ti_report.proofs.actions.is_tabset.Goals as goal
-
-pub returns : goal.returns
-returns c =
-    let tabset = c.is_tabset.ensures in
-    tabset_is c.args.path.now c.is_tabset.result tabset.below tabset.within tabset.otherwise

@@ -1,5 +1,0 @@
-use Rattle.ti_report.proofs.ControlsLemmas.{only_table}
-use Rattle.ti_report.proofs.laws.strings_keep_to_the_table.Goals as goal
-
-pub returns : goal.returns
-returns c = only_table

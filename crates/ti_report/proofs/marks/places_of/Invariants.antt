@@ -1,6 +1,0 @@
--- The places so far go on to those of all.
-use Rattle.ti_report.proofs.PlacesOfLemmas.{Going}
-use Rattle.ti_report.proofs.marks.places_of.Given as goal
-
-abbrev pub invariant-founds : goal.invariant-founds
-invariant-founds g l = Going l.fn.finding l.founds l.found-index l.places.items

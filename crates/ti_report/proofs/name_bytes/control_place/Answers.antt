@@ -1,6 +1,0 @@
-use Rattle.ti_control.specs.Entries.{starts_control}
-use Rattle.ti_report.proofs.FirstPlaceLemmas.{place_is}
-use Rattle.ti_report.proofs.name_bytes.control_place.Goals as goal
-
-pub returns : goal.returns
-returns c = place_is starts_control c.args.names.now c.first_control.result c.first_control.ensures.first

@@ -1,6 +1,0 @@
-use Rattle.std.proofs.Common.{arith}
-use Rattle.std.proofs.lemmas.Grind.{common_steps}
-use Rattle.ti_report.proofs.names.add_names.Goals as goal
-
-pub names-preserved : goal.names-preserved
-names-preserved g c = grind (arith, common_steps)

@@ -1,8 +1,0 @@
--- The set is what the texts so far store into.
-use Rattle.std.proofs.Common.{drop}
-use Rattle.ti_report.specs.inner.Held.{texts_held}
-use Rattle.ti_report.proofs.StoredLemmas.{AreStoredBeside}
-use Rattle.ti_report.proofs.stored.stored_by_texts.Given as goal
-
-abbrev pub invariant-texts : goal.invariant-texts
-invariant-texts l = AreStoredBeside (texts_held l.texts) (drop l.text-index (texts_held l.texts)) l.stored

@@ -1,0 +1,13 @@
+-- The remarks so far go on to those on all texts.
+use Rattle.std.proofs.Common.{◌≡◌, drop}
+use Rattle.ti_words.specs.Texts.{text_value}
+use Rattle.ti_rules.specs.Controls.{AreControlsOf}
+use Rattle.ti_rules.specs.inner.Held.{texts_held}
+use Rattle.ti_rules.proofs.ReportsLemmas.{GoesOnWith}
+use Rattle.ti_rules.proofs.report.Report.push_known_controls.Given as goal
+
+abbrev pub invariant-texts : goal.invariant-texts
+invariant-texts g l = record {
+  kept : l.self.on ≡ l.initial.self.on;
+  goes : GoesOnWith (AreControlsOf l.terminal.untrusted (text_value l.terminal.end)) (texts_held l.texts) (drop l.text-index (texts_held l.texts)) l.initial.self.remarks l.self.remarks;
+}
